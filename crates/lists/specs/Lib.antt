@@ -1,0 +1,8 @@
+-- Tests on Booleans, and lists: definitions that the library lacks, and their laws.
+pub mod Tests
+pub mod Lists
+pub mod Members
+pub mod Order
+pub mod Firsts
+pub mod Count
+pub mod Sets

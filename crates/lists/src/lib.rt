@@ -1,0 +1,1 @@
+// Definitions on lists that the library lacks, and their laws: all in specs/.
