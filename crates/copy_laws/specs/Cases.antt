@@ -1,0 +1,144 @@
+-- Closed cases, decided by computation: what is remembered of a list of calls, and that the claim of the least cost needs each of its conditions. Assumes nothing.
+use mathlib.Core.Path.{_≡_, refl}
+use Prim.Native.Nat.{ℕ}
+use native.Mathlib.Omega.{arith}
+use mathlib.Core.Bool.{Bool, true, false}
+use mathlib.Core.Option.{Option, none, some}
+use mathlib.Core.List.{List, [], _∷_, map, List·Memᴰ·head as here}
+use lib.ListN.{length}
+use lib.IntN.{pos, negsuc}
+use lib.Ieee.{Float, fin, add, sub, mul, neg, lt, le, eq, ne, ofBits}
+use Rattle.real32.specs.Small.{tame}
+use Rattle.real32.specs.Least.{fmin}
+use Rattle.model.specs.Basics.{_≼_, 0f, ∞}
+use Rattle.model.specs.Graph.{Graph, Arc, arcAt, arcsOf, hasEps}
+use Rattle.model.specs.Path.{links, wordsBack, above, keptWithin, worthKeeping, records, live, fullAt, unlimited}
+use Rattle.model.specs.Cutoff.{Config, getCutoff}
+use Rattle.model.specs.Arrive.{total, lower, meets, stepOn, arriving, joined, keeps, keep, checkWinner, fills, beats, loses, settle, passed, put, push, finish, arrive, arriveAll}
+use Rattle.model.specs.Passes.{firstLook, emitFrom, emittingPass, pushFrom, expand, drain, nonemittingPass, dropped, startToken, start, checkFrame, frame, fair, setKeep}
+use Rattle.model.specs.Reads.{rankOne, rankFrom, ranked, Traced, resume, recsOn, trace, bestPath}
+use Rattle.model.specs.Calls.{Call, startCall, frameCall}
+use Rattle.copy_laws.specs.Walks.{Walk, sumFrom, sumOf}
+use Rattle.copy_laws.specs.Drops.{dropsTotal, dropsEmit, dropsEmitting, dropsPopped, dropsQueue, dropsNonemitting, dropsStart, dropsFrame}
+use Rattle.copy_laws.specs.Points.{Point, goTo, after, reached}
+
+-- document 01's graph A with this final weight at state 1, and with one more arc 0 to 1, an epsilon arc of this weight
+abbrev A : (final : Float) → Graph
+A fw =
+    record {
+      start = 0;
+      offsets = 0 ∷ 1 ∷ 2 ∷ [];
+      ilabels = pos 1 ∷ pos 1 ∷ [];
+      olabels = pos 7 ∷ pos 0 ∷ [];
+      weights = fin false 1 (negsuc 0) ∷ fin false 1 (negsuc 1) ∷ [];
+      nextstates = 1 ∷ 1 ∷ [];
+      finals = ∞ ∷ fw ∷ [];
+      tid2pdf = pos 0 ∷ pos 0 ∷ [];
+      tid2phone = pos 0 ∷ pos 3 ∷ [];
+      pdfs = 1;
+    }
+
+abbrev A-eps : Float → Graph
+A-eps w =
+    record {
+      start = 0;
+      offsets = 0 ∷ 2 ∷ 3 ∷ [];
+      ilabels = pos 1 ∷ pos 0 ∷ pos 1 ∷ [];
+      olabels = pos 7 ∷ pos 0 ∷ pos 0 ∷ [];
+      weights = fin false 1 (negsuc 0) ∷ w ∷ fin false 1 (negsuc 1) ∷ [];
+      nextstates = 1 ∷ 1 ∷ 1 ∷ [];
+      finals = ∞ ∷ 0f ∷ [];
+      tid2pdf = pos 0 ∷ pos 0 ∷ [];
+      tid2phone = pos 0 ∷ pos 3 ∷ [];
+      pdfs = 1;
+    }
+
+abbrev settings : Float → ℕ → ℕ → Config
+settings beam max min = record { beam = beam; max-active = max; min-active = min; beam-delta = fin false 1 (negsuc 0) }
+
+abbrev usual : Config
+usual = settings (fin false 1 (pos 3)) 10 2
+
+abbrev begun : Call × ℕ
+begun = (startCall, 0)
+
+abbrev one-frame : Call × ℕ
+one-frame = (frameCall (fin true 1 (pos 0) ∷ []), 0)
+
+-- ---- what is remembered
+
+pub record Case : Type 0 where
+  pub graph : Graph
+  pub config : Config
+  pub calls : List (Call × ℕ)
+  pub started : Bool
+  pub cut : Bool
+  pub heard : ℕ
+
+abbrev pub table : List Case
+table =
+    -- fitted, and no start yet
+    record { graph = A 0f; config = usual; calls = []; started = false; cut = false; heard = 0 } ∷
+    -- M1, M2, M3
+    record { graph = A 0f; config = usual; calls = begun ∷ []; started = true; cut = false; heard = 0 } ∷
+    record { graph = A 0f; config = usual; calls = begun ∷ one-frame ∷ []; started = true; cut = false; heard = 1 } ∷
+    record { graph = A 0f; config = usual; calls = begun ∷ one-frame ∷ one-frame ∷ []; started = true; cut = false; heard = 2 } ∷
+    -- M4: the total is cut
+    record { graph = A 0f; config = settings 0f 10 0; calls = begun ∷ one-frame ∷ []; started = true; cut = true; heard = 1 } ∷
+    -- a start forgets it
+    record { graph = A 0f; config = settings 0f 10 0; calls = begun ∷ one-frame ∷ begun ∷ []; started = true; cut = false; heard = 0 } ∷
+    -- M9: an epsilon arc of weight 8 is cut, of 7.5 not
+    record { graph = A-eps (fin false 1 (pos 3)); config = usual; calls = begun ∷ []; started = true; cut = true; heard = 0 } ∷
+    record { graph = A-eps (fin false 15 (negsuc 0)); config = usual; calls = begun ∷ []; started = true; cut = false; heard = 0 } ∷
+    -- a start that a store refused, a frame after it, and a start after that
+    record { graph = A 0f; config = usual; calls = (startCall, 13) ∷ []; started = false; cut = false; heard = 0 } ∷
+    record { graph = A 0f; config = usual; calls = (startCall, 13) ∷ one-frame ∷ []; started = false; cut = false; heard = 1 } ∷
+    record { graph = A 0f; config = usual; calls = (startCall, 13) ∷ one-frame ∷ begun ∷ []; started = true; cut = false; heard = 0 } ∷
+    -- a frame that is refused changes nothing: too short, or by a store
+    record { graph = A 0f; config = usual; calls = begun ∷ (frameCall [], 0) ∷ []; started = true; cut = false; heard = 0 } ∷
+    record { graph = A 0f; config = usual; calls = begun ∷ (frameCall (0f ∷ []), 13) ∷ []; started = true; cut = false; heard = 0 } ∷ []
+
+abbrev remembered : Case → Bool × Bool × ℕ
+remembered c = let pt = reached (c .graph) (c .config) (c .calls) in (pt .started, pt .cut, length (pt .heard))
+
+abbrev expected : Case → Bool × Bool × ℕ
+expected c = (c .started, c .cut, c .heard)
+
+pub remembered-right : map remembered table ≡ map expected table
+unfolding after goTo dropsStart dropsFrame dropsEmitting dropsEmit dropsNonemitting dropsQueue dropsPopped dropsTotal hasEps arcsOf arcAt
+    links wordsBack above keptWithin worthKeeping records live fullAt unlimited
+    getCutoff total lower meets stepOn arriving joined keeps keep checkWinner fills beats loses settle passed put push finish arrive arriveAll
+    firstLook emitFrom emittingPass pushFrom expand drain nonemittingPass dropped startToken start checkFrame frame fair setKeep
+    tame fmin add sub mul neg lt le eq ne ofBits
+remembered-right = refl
+
+-- ---- wrong claims
+
+-- no best path, and yet a path of that many frames: so the claim needs that nothing was cut (M4)
+abbrev cut-off : Point
+cut-off = reached (A 0f) (settings 0f 10 0) (begun ∷ one-frame ∷ [])
+
+abbrev first-arc : Arc
+first-arc = record { source = 0; ilabel = pos 1; olabel = pos 7; weight = fin false 1 (negsuc 0); target = 1 }
+
+pub a-path-was-cut : (bestPath (A 0f) (cut-off .state) false ≡ none) × Walk (A 0f) (cut-off .heard) (first-arc ∷ []) 1
+unfolding after goTo hasEps arcsOf arcAt links wordsBack above keptWithin worthKeeping records live fullAt unlimited
+    getCutoff total lower meets stepOn arriving joined keeps keep checkWinner fills beats loses settle passed put push finish arrive arriveAll
+    firstLook emitFrom emittingPass pushFrom expand drain nonemittingPass dropped startToken start checkFrame frame fair setKeep
+    rankOne rankFrom ranked resume recsOn trace bestPath tame fmin add sub mul neg lt le eq ne ofBits dropsFrame dropsEmitting dropsEmit dropsNonemitting dropsQueue dropsPopped dropsTotal dropsStart
+a-path-was-cut = (refl, record { begins = omega arith; leads = (here refl, refl); frames = refl })
+
+-- where finals count, the best path's cost has its final weight, here 4, and its own path's sum is less: so the claim needs that they do not
+abbrev ended : Point
+ended = reached (A (fin false 1 (pos 2))) usual (begun ∷ one-frame ∷ [])
+
+abbrev costOr : Float → Option Traced → Float
+costOr x none = x
+costOr x (some t) = t .cost
+
+pub final-weight-counts : (costOr 0f (bestPath (A (fin false 1 (pos 2))) (ended .state) true) ≼ sumOf (A (fin false 1 (pos 2))) (ended .heard) (first-arc ∷ [])) ≡ false
+unfolding after goTo hasEps arcsOf arcAt links wordsBack above keptWithin worthKeeping records live fullAt unlimited
+    getCutoff total lower meets stepOn arriving joined keeps keep checkWinner fills beats loses settle passed put push finish arrive arriveAll
+    firstLook emitFrom emittingPass pushFrom expand drain nonemittingPass dropped startToken start checkFrame frame fair setKeep
+    rankOne rankFrom ranked resume recsOn trace bestPath sumFrom tame fmin add sub mul neg lt le eq ne ofBits dropsFrame dropsEmitting dropsEmit dropsNonemitting dropsQueue dropsPopped dropsTotal dropsStart
+final-weight-counts = refl
