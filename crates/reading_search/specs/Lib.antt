@@ -1,0 +1,2 @@
+-- What an answer of the search means.
+pub mod Found
