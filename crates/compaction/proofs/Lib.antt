@@ -1,0 +1,6 @@
+-- Laws of this crate's proofs.
+pub mod Marking
+pub mod Moves
+pub mod Slides
+pub mod Stays
+pub mod Compacting
