@@ -1,0 +1,3 @@
+-- Scripts and answers as words: what the contracts cite.
+pub mod Words
+pub mod Records

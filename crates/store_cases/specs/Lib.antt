@@ -1,0 +1,2 @@
+-- What the cases keep of their store.
+pub mod Ready

@@ -1,0 +1,7 @@
+-- What the lent stores stand for.
+pub mod Shown
+pub mod Grown
+pub mod Tables
+pub mod Rep
+pub mod Roots
+pub mod Moved
