@@ -15,7 +15,7 @@ use Rattle.model.specs.Basics.{0f, ltℤ, firstOf, Place, nowhere, atArc, Refus
 use Rattle.model.specs.Graph.{Graph, Arc, states, emits, phoneOf, labelWrong, weightWrong, arcAt, refuseAt, checkArc, checkArcs}
 use Rattle.fst.specs.declared.Place.the-variants.{AtArc}
 use Rattle.fst.specs.declared.Found.the-variants.{Nothing, Fault}
-use Rattle.fst.proofs.Weights.{getD-any}
+use Rattle.lists.specs.Members.{getD-any}
 use Rattle.fst.proofs.Walk.{refuses, passes}
 use Rattle.fst.specs.Answer.{tablesOf, withoutWords, arcOf, numberOf, foundOf, checkLabel}
 

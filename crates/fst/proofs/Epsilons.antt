@@ -1,5 +1,4 @@
 -- Which states have epsilon arcs. Assumes nothing.
--- Which states have epsilon arcs. Assumes nothing.
 use mathlib.Core.Path.{_≡_, refl, sym, _∙_, ap, ap₂}
 use mathlib.Core.Bool.{Bool, true, false, not, _||_}
 use mathlib.Core.List.{List, [], _∷_, map, _++_}

@@ -4,13 +4,14 @@ use mathlib.Core.List.{List, [], _∷_, map}
 use mathlib.Core.Option.{Option}
 use Prim.Native.Nat.{ℕ, zero, suc, _+_, _-_, _<_, _≤_}
 use native.Mathlib.Omega.{arith}
-use native.Mathlib.Nat.{zero-add, add-zero, suc-add, add-suc}
+use native.Mathlib.Nat.{add-zero, suc-add, add-suc}
 use native.Mathlib.Numerals.{add-one}
 use lib.IntN.{ℤ, pos}
-use lib.ListN.{length, getD, take, drop, length-drop, drop-of-length-le}
-use lib.Seq.{drop-cons, length-take-le, getD-take, getD-drop}
+use lib.ListN.{length, getD, take, drop, drop-of-length-le}
+use lib.Seq.{drop-cons}
 use lib.Ieee.{Float}
 use Rattle.lists.specs.Lists.{range}
+use Rattle.lists.specs.Parts.{part-length, part-at}
 use Rattle.model.specs.Basics.{0f, firstOf, Place, atArc, Refusal}
 use Rattle.model.specs.Graph.{Graph, arcAt, checkArc, checkArcs, checkStates}
 use Rattle.fst.specs.declared.Found.the-variants.{Nothing, Fault}
@@ -31,12 +32,6 @@ alike g f s k a b (suc n) h =
 
 abbrev pub arcs : Graph → List ℕ → ℕ → Option Refusal
 arcs g xs s = checkArcs g s 0 (map (arcAt g s) (range (getD xs s 0) (getD xs (s + 1) 0 - getD xs s 0)))
-
-pub part-length : {A : Type 0} (xs : List A) (a e n : ℕ) → length xs ≡ n → a ≤ e → e ≤ n → length (take (e - a) (drop a xs)) ≡ e - a
-part-length xs a e n l h k = length-take-le (e - a) (drop a xs) (simp length-drop (omega arith))
-
-part-at : {A : Type 0} (xs : List A) (a n i : ℕ) (d : A) → i < n → getD (take n (drop a xs)) (0 + i) d ≡ getD xs (a + i) d
-part-at xs a n i d h = ap (λ (k : ℕ). getD (take n (drop a xs)) k d) (zero-add i) ∙ getD-take n (drop a xs) i d h ∙ getD-drop a xs i d
 
 module _ (os : List ℕ) (il : List ℤ) (ws : List Float) (ns : List ℕ) (fs : List Float) (p h : List ℤ) (m s a e : ℕ) (rise : a ≤ e) (end : e ≤ length il) where
   abbrev g : Graph

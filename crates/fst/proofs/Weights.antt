@@ -34,11 +34,6 @@ not-below-infinity (fin s m k) e = never (sym e)
 pub no-weight : (xs : List Float) (i : ℕ) → length xs ≤ i → finite (getD xs i (inf false)) ≡ false
 no-weight xs i h = ap finite (List·getD-eq-default xs (inf false) h)
 
-pub getD-any {ℓ} : {A : Type ℓ} (xs : List A) (i : ℕ) (d e : A) → i < length xs → getD xs i d ≡ getD xs i e
-getD-any [] i d e h = absurd (omega arith)
-getD-any (x ∷ xs) zero d e h = refl
-getD-any (x ∷ xs) (suc i) d e h = getD-any xs i d e (omega arith)
-
 -- ---- the loop over the final weights, which stands at state s
 
 module _ (ws : List Float) (s : ℕ) (so-far : checkFinals 0 ws ≡ checkFinals s (drop s ws)) where

@@ -71,7 +71,7 @@ fn runs(offsets: &[u32], arcs: usize) -> bool
 }
 
 // The number of a state's first arc; behind the last state, the arc count.
-fn first_arc(offsets: &[u32], state: usize) -> usize
+pub fn first_arc(offsets: &[u32], state: usize) -> usize
     requires { ⌜ state < length (now offsets) ⌝ }
     ensures { λ r. ⌜ r ≡ getD (now (offsets .entry)) state 0 ⌝ }
 {

@@ -6,3 +6,4 @@ pub mod Order
 pub mod Firsts
 pub mod Count
 pub mod Sets
+pub mod Parts

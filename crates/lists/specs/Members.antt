@@ -11,6 +11,12 @@ use lib.Seq.{drop-cons}
 use Rattle.lists.specs.Tests.{case, either, or-neither, and-both, never}
 use Rattle.lists.specs.Lists.{_∈_, any, all, keepIf, insertBy, sortBy, firsts}
 
+-- inside a list, the default does not count
+pub getD-any {ℓ} : {A : Type ℓ} (xs : List A) (i : ℕ) (d e : A) → i < length xs → getD xs i d ≡ getD xs i e
+getD-any [] i d e h = absurd (omega arith)
+getD-any (x ∷ xs) zero d e h = refl
+getD-any (x ∷ xs) (suc i) d e h = getD-any xs i d e (omega arith)
+
 module _ {A : Type 0} where
   pub at-member : (xs : List A) (i : ℕ) (d : A) → i < length xs → getD xs i d ∈ xs
   at-member [] i d h = absurd (omega arith)

@@ -1,5 +1,5 @@
 -- What the lent stores stand for during a pass.
-use mathlib.Core.Path.{_≡_, sym, subst}
+use mathlib.Core.Path.{_≡_, refl, sym, _∙_, subst}
 use Prim.Native.Nat.{ℕ, _-_, _*_, _≤_}
 use native.Mathlib.Omega.{arith}
 use mathlib.Core.List.{List}
@@ -55,6 +55,20 @@ rep-as {b} {n} m m' {used} {x} {p} {done} {going} {fresh} e = subst (λ (z : Len
 -- stores of the same lengths have the same places
 pub room-as : (rs rs' : List ℕ) (ls ls' : List ℤ) (gs gs' : List Float) {cap : ℕ} → length rs' ≡ length rs → length ls' ≡ length ls → length gs' ≡ length gs → Room (store rs ls gs) cap → Room (store rs' ls' gs') cap
 room-as rs rs' ls ls' gs gs' a b c r = record { records = omega (arith, r .records); labels = omega (arith, r .labels); gaps = omega (arith, r .gaps) }
+
+-- lengths stay
+pub record Lens (m m' : Lent) : Type 0 where
+  pub tokens : length (m' .tokens) ≡ length (m .tokens)
+  pub sums : length (m' .sums) ≡ length (m .sums)
+  pub records : length (m' .records) ≡ length (m .records)
+  pub labels : length (m' .labels) ≡ length (m .labels)
+  pub gaps : length (m' .gaps) ≡ length (m .gaps)
+
+pub lens-self : (m : Lent) → Lens m m
+lens-self m = record { tokens = refl; sums = refl; records = refl; labels = refl; gaps = refl }
+
+pub lens-then : {m m' m'' : Lent} → Lens m m' → Lens m' m'' → Lens m m''
+lens-then a b = record { tokens = b .tokens ∙ a .tokens; sums = b .sums ∙ a .sums; records = b .records ∙ a .records; labels = b .labels ∙ a .labels; gaps = b .gaps ∙ a .gaps }
 
 -- one table between calls, as the reads have it
 pub record Finished (b n : ℕ) (m : Lent) (used : ℕ) (ts : Table) : Type 0 where

@@ -7,7 +7,8 @@ use lib.ListN.{length, drop}
 use Rattle.model.specs.Graph.{checkStates}
 use Rattle.fst.specs.Answer.{withoutWords, foundOf}
 use Rattle.fst.proofs.Offsets.{between}
-use Rattle.fst.proofs.States.{arcs, part-checked, part-length, all-states, state-refused, state-passed}
+use Rattle.lists.specs.Parts.{part-length}
+use Rattle.fst.proofs.States.{arcs, part-checked, all-states, state-refused, state-passed}
 use Rattle.fst.proofs.check_states.Statement.{statement}
 use Rattle.fst.proofs.check_states.Tie as tie
 

@@ -9,7 +9,8 @@ use lib.Ieee.{Float, nan, neg, lt}
 use lib.Ieee.Scale.{finite}
 use Rattle.model.specs.Basics.{∞}
 use Rattle.model.specs.Graph.{Graph, isFinal}
-use Rattle.fst.proofs.Weights.{no-weight, finite-between, not-below-infinity, getD-any}
+use Rattle.lists.specs.Members.{getD-any}
+use Rattle.fst.proofs.Weights.{no-weight, finite-between, not-below-infinity}
 use Rattle.fst.proofs.is_final.Statement.{statement}
 use Rattle.fst.proofs.is_final.Tie as tie
 

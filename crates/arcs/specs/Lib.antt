@@ -1,0 +1,7 @@
+pub mod Part
+pub mod Queue
+pub mod Passed
+pub mod Finish
+pub mod Whole
+pub mod All
+pub mod State
