@@ -41,7 +41,7 @@ pub enum Passed {
 }
 
 // The emitting pass takes the arcs with a label, the other one those without.
-fn takes(ilabels: &[i32], pass: Pass, i: usize) -> bool
+pub fn takes(ilabels: &[i32], pass: Pass, i: usize) -> bool
     requires { ⌜ i < length (now ilabels) ⌝ }
     ensures { λ r. ⌜ r ≡ takesLabel pass (getD (now (ilabels .entry)) i (pos 0)) ⌝ }
 {
@@ -59,7 +59,7 @@ fn number_at(table: &[i32], i: usize) -> usize
     table[i] as usize
 }
 
-fn loglike(ilabels: &[i32], tid2pdf: &[i32], loglikes: &[f32], i: usize) -> f32
+pub fn loglike(ilabels: &[i32], tid2pdf: &[i32], loglikes: &[f32], i: usize) -> f32
     requires { ⌜ Labelled (now ilabels) (now tid2pdf) i × (byLabel (now ilabels) (now tid2pdf) i < length (now loglikes)) ⌝ }
     ensures { λ r. ⌜ r ≡ getD (now (loglikes .entry)) (byLabel (now (ilabels .entry)) (now (tid2pdf .entry)) i) 0f ⌝ }
 {
@@ -126,7 +126,7 @@ fn arrival_at(
 }
 
 // In the emitting pass, total + adaptive beam may lower the cutoff.
-fn lower(pass: Pass, total: f32, cutoff: f32) -> f32
+pub fn lower(pass: Pass, total: f32, cutoff: f32) -> f32
     ensures { λ r. ⌜ r ≡ lowerBy pass total cutoff ⌝ }
 {
     match pass {

@@ -231,7 +231,7 @@ module _ (H : Here) (P : Pass) (t : Token) (arc : Arc) (w : Work) (g : Setting) 
               → Ends s' (check 12 (tame (total (H .graph) P t arc)) >>= λ u. keep H (inHand H w (new .path)) (suc (w .fresh)) gap held new >>= λ j. ok (joinsOrStays j)) (lostWith y (k .used) (k .seq) q)
           go Dropped o c = rw (small, o .0) (endsStays (o .1))
           go Full o c = rw (small, o .0) (endsRefused 13 (λ z. omega arith) (survives-same h (k .used) s s' (S .stands) (o .1)))
-          go (Joined r) o c = rw (small, o .0) (endsJoins (joined-on h (k .used) s' y held new r (grown-self h (k .used)) (room-of c) there (λ b. beside-frame) (S .hand .frames) (o .1) (o .2)) seq-is)
+          go (Joined r) o c = rw (small, o .0) (endsJoins (joined-on h (k .used) s' y held new r (grown-self h (k .used)) (room-of c) there (λ b. beside-frame, S .hand .own) (S .hand .frames) (o .1) (o .2)) seq-is)
 
       pub beats-is : gap ≡ held .cost ⊖ total (H .graph) P t arc → (r : Settled) → BeatIs s s' g k gap x a y r → Ends s' (settle H P t arc w (better gap held)) r
       unfolding settle beats

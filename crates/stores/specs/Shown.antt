@@ -14,11 +14,11 @@ use Rattle.tokens.specs.declared.Token.{Token as Stored}
 use Rattle.tokens.specs.Layout.{Cell, cellAt, cellOf, placeIn}
 use Rattle.records.specs.History.{History, noHistory, historyOf, plain}
 
--- an arc that is held beside a join has the join's frame
+-- Of a kept path: an arc that is held beside the join has the join's frame, and below it nothing is held beside one.
 abbrev pub besideIn : (frame : ℕ) → Path → Type 0
 besideIn f emptyPath = Unit {0}
-besideIn f (arcOn s p) = s .beside ≡ true → s .frame ≡ f
-besideIn f (branchOn m k p) = Unit {0}
+besideIn f (arcOn s p) = (s .beside ≡ true → s .frame ≡ f) × (plain p ≡ true)
+besideIn f (branchOn m k p) = plain p ≡ true
 
 abbrev pub timed : Path → Type 0
 timed emptyPath = Unit {0}
@@ -67,5 +67,5 @@ sides-apart (suc (suc b)) r s l e = omega arith
 pub none-beside : (f : ℕ) (p : Path) → plain p ≡ true → besideIn f p
 unfolding plain
 none-beside f emptyPath e = tt
-none-beside f (arcOn s p) e = λ b. never (sym (ap not b) ∙ and-both (not (s .beside)) (plain p) e .0)
-none-beside f (branchOn m k p) e = tt
+none-beside f (arcOn s p) e = let d = and-both (not (s .beside)) (plain p) e in (λ b. never (sym (ap not b) ∙ d .0), d .1)
+none-beside f (branchOn m k p) e = e
