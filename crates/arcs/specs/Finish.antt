@@ -73,8 +73,8 @@ unfolding push
 push-ok H s re w e = ap (λ (b : Bool). elim b as (λ z. Outcome ModelWork) [ true ↦ refused 14 | false ↦ ok (onQueue w s re) ]) e
 
 module _ {g : Setting} {H : Here} {done : Table} {eps : List ℕ} {places : ℕ} (G : Ground g H done eps places) {m : Lent} {p : Path} where
-  old : {y : Going} {w : ModelWork} → Stood g m y done p w → Old (g .side) (g .states) m done
-  old {y} s = record { h = s .rep .h; used = y .used; stands = s .rep .stands; finished = s .rep .finished }
+  old : {y : Going} {w : ModelWork} → Stood g m y done p w → Old (g .side) (g .states) (g .cap) m done
+  old {y} s = record { h = s .rep .h; used = y .used; fits = s .fits; stands = s .rep .stands; finished = s .rep .finished }
 
   -- `re` are the requeued states that the stores tell of already
   pub pushed : (qs qs' : List ℕ) → length qs ≡ places → (x : Work) (s : ℕ) → s < g .states → (re : List ℕ) (w : ModelWork)

@@ -42,7 +42,7 @@ pub record At (g : Setting) (m : Lent) (qs : List ℕ) (x : Work) (done : Table)
 
 -- what comes of a step that the definition gives an outcome for
 pub data PassedBy (g : Setting) (m : Lent) (qs : List ℕ) (done : Table) (p : Path) : Outcome ModelWork → Passed → Type 0 where
-  passedRefused : (n : ℕ) → (n ≡ 0 → ⊥) → Old (g .side) (g .states) m done → PassedBy g m qs done p (refused n) (Refused n)
+  passedRefused : (n : ℕ) → (n ≡ 0 → ⊥) → Old (g .side) (g .states) (g .cap) m done → PassedBy g m qs done p (refused n) (Refused n)
   passedOn : {w : ModelWork} {x : Work} → At g m qs x done p w → PassedBy g m qs done p (ok w) (On x)
 
 -- ---- the numbers that move

@@ -151,8 +151,8 @@ module _ (g : Setting) (m : Lent) (cutoff : Float) (y : Going) (x : Stored) (a :
   unfolding meets settle
   cut-is e m' q = rw (test-is ∙ e, meets) (arrivedCut q)
 
-  pub old-is : Old (g .side) (g .states) m (G .done)
-  old-is = let r = G .stood .rep in record { h = r .h; used = y .used; stands = r .stands; finished = r .finished }
+  pub old-is : Old (g .side) (g .states) (g .cap) m (G .done)
+  old-is = let r = G .stood .rep in record { h = r .h; used = y .used; fits = G .stood .fits; stands = r .stands; finished = r .finished }
 
   -- the live paths, as the model lists them
   live-is : (F : List Path → Type 0) → F (t .path ∷ (paths (w .table) ++ paths (G .done))) → F (inHand H w (t .path))
@@ -284,8 +284,8 @@ module _ (g : Setting) (m : Lent) (cutoff : Float) (y : Going) (x : Stored) (a :
 
       -- ---- the stores after it
 
-      grown-old : (h' : ℕ → History) (used' : ℕ) → Grown h (v .used) h' used' → Stands (storeOf m₂) used' h' → Old (g .side) (g .states) m₂ (G .done)
-      grown-old h' used' gr st = record { h = h'; used = used'; stands = st; finished = shown-grown gr (R .stood .rep .finished) }
+      grown-old : (h' : ℕ → History) (used' : ℕ) → used' ≤ g .cap → Grown h (v .used) h' used' → Stands (storeOf m₂) used' h' → Old (g .side) (g .states) (g .cap) m₂ (G .done)
+      grown-old h' used' fits gr st = record { h = h'; used = used'; fits = fits; stands = st; finished = shown-grown gr (R .stood .rep .finished) }
 
       -- the same work, two numbers later
       later : m₂ ≡ m₁ → Stood g m₂ (y₁ v) (G .done) (t .path) (passed P tot w)
@@ -332,7 +332,7 @@ module _ (g : Setting) (m : Lent) (cutoff : Float) (y : Going) (x : Stored) (a :
       low z k u T = let a = T .token .link .low in let b = T .fits in let c = G .pass .small in omega arith
 
       finish-by : (o : Outcome Change) → comesOf G ≡ o → (r : Settled) → SettleEnds h (v .used) (storeOf m₁) (storeOf m₂) (g .cap) (w .fresh) (w .seq) o r → FinishedBy v rs₂ ls₂ gs₂ r
-      finish-by o e r (endsRefused n ne z) = rw e (arrivedRefused n ne (grown-old (z .h') (z .used') (z .grown) (z .stands)))
+      finish-by o e r (endsRefused n ne z) = rw e (arrivedRefused n ne (grown-old (z .h') (z .used') (z .fits) (z .grown) (z .stands)))
       finish-by o e r (endsStays q) = rw e (arrivedStays (later (λ i. lent tk₁ (m .sums) (q i .records) (q i .labels) (q i .gaps))))
       finish-by o e r (endsWins {u} {y = z} {k} T) =
           (low z k u T, λ tk₂ sm₂ lt ls p. rw e (arrivedWins (put-on z k u (k .seq) T refl (seqs-won H P t arc w (w .cutoff) tot inside (R .stood .seqs) u (k .seq) e) tk₂ sm₂ lt ls p)))

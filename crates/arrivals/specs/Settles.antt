@@ -60,9 +60,10 @@ pub record Scene (H : Here) (P : Pass) (t : Token) (arc : Arc) (w : Work) (g : S
   pub meter : Tight 2 (g .cap) h used (inHand H w (t .path)) ⊎ ((links x a ≡ false) × (g .keeps ≡ false))
 
 -- the store after records were put on
-pub record Survives (h : ℕ → History) (used : ℕ) (s' : Store) : Type 0 where
+pub record Survives (h : ℕ → History) (used : ℕ) (s' : Store) (cap : ℕ) : Type 0 where
   pub h' : ℕ → History
   pub used' : ℕ
+  pub fits : used' ≤ cap
   pub grown : Grown h used h' used'
   pub stands : Stands s' used' h'
 
@@ -81,13 +82,13 @@ and-false false = refl
 
 -- what the code answers, by what the model gives
 pub data SettleEnds (h : ℕ → History) (used : ℕ) (s s' : Store) (cap fresh seq : ℕ) : Outcome Change → Settled → Type 0 where
-  endsRefused : (n : ℕ) → (n ≡ 0 → ⊥) → Survives h used s' → SettleEnds h used s s' cap fresh seq (refused n) (Refused n)
+  endsRefused : (n : ℕ) → (n ≡ 0 → ⊥) → Survives h used s' cap → SettleEnds h used s s' cap fresh seq (refused n) (Refused n)
   endsStays : s' ≡ s → SettleEnds h used s s' cap fresh seq (ok tokenStays) Stays
   endsWins : {u : Token} {y : Stored} {k : Counts} → TokenOn h used s' (k .used) cap y u (fresh + 2) → SettleEnds h used s s' cap fresh seq (ok (tokenWins u (k .seq))) (Wins y k)
   endsJoins : {u : Token} {y : Stored} {k : Counts} → TokenOn h used s' (k .used) cap y u (fresh + 2) → seq ≡ k .seq → SettleEnds h used s s' cap fresh seq (ok (tokenJoins u)) (Joins y k)
 
-pub survives-same : (h : ℕ → History) (used : ℕ) (s s' : Store) → Stands s used h → s' ≡ s → Survives h used s'
-survives-same h used s s' st e = record { h' = h; used' = used; grown = grown-self h used; stands = subst (λ (z : Store). Stands z used h) (sym e) st }
+pub survives-same : (h : ℕ → History) (used cap : ℕ) (s s' : Store) → used ≤ cap → Stands s used h → s' ≡ s → Survives h used s' cap
+survives-same h used cap s s' fits st e = record { h' = h; used' = used; fits = fits; grown = grown-self h used; stands = subst (λ (z : Store). Stands z used h) (sym e) st }
 
 module _ (H : Here) (P : Pass) (t : Token) (arc : Arc) (w : Work) (g : Setting) (k : Counts) (x : Stored) (a : Arrival) (s : Store) (h : ℕ → History) (S : Scene H P t arc w g x a s (k .used) h)
     (small : tame (total (H .graph) P t arc) ≡ true) (seq-is : w .seq ≡ k .seq) where
@@ -119,7 +120,7 @@ module _ (H : Here) (P : Pass) (t : Token) (arc : Arc) (w : Work) (g : Setting) 
     unfolding settle fills
     fills-is room (Refused n) (fillRefused p) =
         let o = on-by (NotOn n) p in
-        rw (small, o .0) (endsRefused n (o .1) (survives-same h (k .used) s s' (S .stands) (o .2)))
+        rw (small, o .0) (endsRefused n (o .1) (survives-same h (k .used) (g .cap) s s' (S .fits) (S .stands) (o .2)))
     fills-is room (Wins y c) (fillWins {l} {u} p) =
         let o = on-by (On l u) p in
         let e : nextSeq k ≡ suc (w .seq) = mod-eq-of-lt (omega arith) ∙ omega arith in
@@ -230,14 +231,14 @@ module _ (H : Here) (P : Pass) (t : Token) (arc : Arc) (w : Work) (g : Setting) 
           go : (q : Keeping) → KeepComes H (inHand H w (new .path)) (suc (w .fresh)) gap held new h s s' (k .used) q → KeepIs s s' (k .used) (g .cap) (g .frame) (marginIn g) gap y (newToken a (x .link) 0) (a .word) (startsOf x a) q
               → Ends s' (check 12 (tame (total (H .graph) P t arc)) >>= λ u. keep H (inHand H w (new .path)) (suc (w .fresh)) gap held new >>= λ j. ok (joinsOrStays j)) (lostWith y (k .used) (k .seq) q)
           go Dropped o c = rw (small, o .0) (endsStays (o .1))
-          go Full o c = rw (small, o .0) (endsRefused 13 (λ z. omega arith) (survives-same h (k .used) s s' (S .stands) (o .1)))
+          go Full o c = rw (small, o .0) (endsRefused 13 (λ z. omega arith) (survives-same h (k .used) (g .cap) s s' (S .fits) (S .stands) (o .1)))
           go (Joined r) o c = rw (small, o .0) (endsJoins (joined-on h (k .used) s' y held new r (grown-self h (k .used)) (room-of c) there (λ b. beside-frame, S .hand .own) (S .hand .frames) (o .1) (o .2)) seq-is)
 
       pub beats-is : gap ≡ held .cost ⊖ total (H .graph) P t arc → (r : Settled) → BeatIs s s' g k gap x a y r → Ends s' (settle H P t arc w (better gap held)) r
       unfolding settle beats
       beats-is e r (beatRefused {n} p q) =
           let o = on-by (s' .records) (s' .labels) (NotOn n) p in
-          rw (small, o .0) (endsRefused n (o .1) (survives-same h (k .used) s s' (S .stands) (ap (store (s' .records) (s' .labels)) q ∙ o .2)))
+          rw (small, o .0) (endsRefused n (o .1) (survives-same h (k .used) (g .cap) s s' (S .fits) (S .stands) (ap (store (s' .records) (s' .labels)) q ∙ o .2)))
       beats-is e r (beatWins {l} {u} q rs₁ ls₁ p c) = go q (keep-comes (G rs₁ ls₁ l u p e) c) c
         where
           o : WonBy H P t arc w g x a (S .arrival) (S .phone) (S .frame) (s .records) rs₁ (s .labels) ls₁ (s .gaps) (k .used) h (S .stands) (S .hand) (S .newest) (S .fits) exact (On l u)
@@ -255,7 +256,7 @@ module _ (H : Here) (P : Pass) (t : Token) (arc : Arc) (w : Work) (g : Setting) 
               rw (small, o .checked, d .0, seq-is)
               (endsWins (record { h' = o .on .h'; grown = o .on .grown; stands = stands-as (store rs₁ ls₁ (s .gaps)) (d .1) (o .on .stands); token = as-is; newest = let n = o .on .newest in omega arith; fits = o .few }))
           go Full d c =
-              rw (small, o .checked, d .0) (endsRefused 13 (λ z. omega arith) (record { h' = o .on .h'; used' = u; grown = o .on .grown; stands = stands-as (store rs₁ ls₁ (s .gaps)) (d .1) (o .on .stands) }))
+              rw (small, o .checked, d .0) (endsRefused 13 (λ z. omega arith) (record { h' = o .on .h'; used' = u; fits = o .few; grown = o .on .grown; stands = stands-as (store rs₁ ls₁ (s .gaps)) (d .1) (o .on .stands) }))
           go (Joined r) d c = rw (small, o .checked, d .0, seq-is) (endsWins (joined-on (o .on .h') u s' (newToken a l (y .seq)) won held r (o .on .grown) (room-of c) as-is (none-beside (H .frame) (held .path) (there .link .own)) (there .link .frames) (d .1) (d .2)))
 
   -- ---- by what the arc meets

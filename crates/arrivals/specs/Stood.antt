@@ -58,7 +58,7 @@ pub record Given (g : Setting) (m : Lent) (cutoff : Float) (y : Going) (x : Stor
 
 -- what it leaves, by what the definition's `settle` gives
 pub data ArrivedBy (g : Setting) (m m' : Lent) (H : Here) (P : Pass) (t : Token) (arc : Arc) (w : Work) (done : Table) : Outcome Change → Arrived → Type 0 where
-  arrivedRefused : (n : ℕ) → (n ≡ 0 → ⊥) → Old (g .side) (g .states) m' done → ArrivedBy g m m' H P t arc w done (refused n) (Refused n)
+  arrivedRefused : (n : ℕ) → (n ≡ 0 → ⊥) → Old (g .side) (g .states) (g .cap) m' done → ArrivedBy g m m' H P t arc w done (refused n) (Refused n)
   arrivedCut : m' ≡ m → ArrivedBy g m m' H P t arc w done (ok arcCut) Cut
   arrivedStays : {y : Going} → Stood g m' y done (t .path) (passed P (total (H .graph) P t arc) w) → ArrivedBy g m m' H P t arc w done (ok tokenStays) (Stays y)
   arrivedWins : {y : Going} {u : Token} {q : ℕ} → Stood g m' y done (t .path) (put (arc .target) u q (passed P (total (H .graph) P t arc) w)) → ArrivedBy g m m' H P t arc w done (ok (tokenWins u q)) (Wins y)

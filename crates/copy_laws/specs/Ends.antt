@@ -52,10 +52,10 @@ module _ (h : Here) (inside : (s : ℕ) (a : Arc) → a ∈ arcsOf (h .graph) s 
   len = states (h .graph)
 
   -- costs are f32 values, and no more than n is left
-  record Going (n : ℕ) (w : Work) : Type 0 where
-    long : length (w .table) ≡ len
-    costs : Fits (w .table)
-    small : left len w ≤ n
+  pub record Going (n : ℕ) (w : Work) : Type 0 where
+    pub long : length (w .table) ≡ len
+    pub costs : Fits (w .table)
+    pub small : left len w ≤ n
 
   came-fits : (t : Token) (a : Arc) (w v : Work) → Fits (w .table) → Came h nonemitting t a w v → Fits (v .table)
   unfolding arriving joined total
@@ -99,6 +99,10 @@ module _ (h : Here) (inside : (s : ℕ) (a : Arc) → a ∈ arcsOf (h .graph) s 
   expand-goes n s none w g = g
   expand-goes n s (some t) w g = branches (Going n) (w .cutoff ≼ t .cost) _ _ (λ c. g) (λ c. arriveAll-goes n s t (arcsOf (h .graph) s) (λ a m. m) w g)
 
+  -- one turn: a state popped and expanded
+  pub turn-goes : (n s : ℕ) (q : List ℕ) (w : Work) → w .queue ≡ s ∷ q → Going (suc n) w → Ok (Going n) (expand h s (getD (w .table) s none) (popped w q))
+  turn-goes n s q w e g = expand-goes n s (getD (w .table) s none) (popped w q) (record { long = g .long; costs = g .costs; small = let x = g .small in let y = ap length e in omega arith })
+
   no-queue : (q : List ℕ) → length q ≤ 0 → q ≡ []
   no-queue [] e = refl
   no-queue (s ∷ q) e = absurd (omega arith)
@@ -114,9 +118,7 @@ module _ (h : Here) (inside : (s : ℕ) (a : Arc) → a ∈ arcsOf (h .graph) s 
 
       go : (r : List ℕ) → w .queue ≡ r → ((v : Work) → Going n v → Loops h v (drain n h v)) → Loops h w (elim r as (λ x. Outcome Work) [ [] ↦ ok w | s ∷ q ↦ expand h s (getD (w .table) s none) (popped w q) >>= λ v. drain n h v ])
       go [] e rec = loopEnds e
-      go (s ∷ q) e rec =
-          turn s q e rec (expand h s (getD (w .table) s none) (popped w q)) refl
-          (expand-goes n s (getD (w .table) s none) (popped w q) (record { long = g .long; costs = g .costs; small = let x = g .small in let y = ap length e in omega arith }))
+      go (s ∷ q) e rec = turn s q e rec (expand h s (getD (w .table) s none) (popped w q)) refl (turn-goes n s q w e g)
 
   -- From a table of f32 costs, with nothing requeued yet, the fuel is enough.
   pub pass-runs : (w : Work) → length (w .table) ≡ len → Fits (w .table) → w .queue ≡ [] → w .requeued ≡ [] → Runs h w (nonemittingPass h w)

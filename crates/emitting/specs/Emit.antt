@@ -27,36 +27,9 @@ use Rattle.arcs.specs.declared.Work.{Work}
 use Rattle.arcs.specs.declared.Passed.{Passed}
 use Rattle.arcs.specs.declared.Passed.the-variants.{Refused, On}
 use Rattle.arcs.specs.Part.{passOf, SourceIs}
-use Rattle.arcs.specs.Passed.{Ground, At, PassedBy, passedRefused, passedOn}
+use Rattle.arcs.specs.Passed.{Ground, At}
+use Rattle.arcs.specs.Ended.{EndedBy, endedRefused, endedOn, ended, withLink, in-hand}
 use Rattle.arcs.specs.State.{Tables, TablesOf, StateGiven, StateIs}
-
--- what comes of a pass: as of an arc, with some path in hand
-pub data EndedBy (g : Setting) (m : Lent) (qs : List ℕ) (done : Table) : Outcome ModelWork → Passed → Type 0 where
-  endedRefused : (n : ℕ) → (n ≡ 0 → ⊥) → Old (g .side) (g .states) m done → EndedBy g m qs done (refused n) (Refused n)
-  endedOn : {w : ModelWork} {x : Work} → (p : Path) → At g m qs x done p w → EndedBy g m qs done (ok w) (On x)
-
-pub ended : {g : Setting} {m : Lent} {qs : List ℕ} {done : Table} {p : Path} {o : Outcome ModelWork} {r : Passed} → PassedBy g m qs done p o r → EndedBy g m qs done o r
-ended (passedRefused n d z) = endedRefused n d z
-ended {p = p} (passedOn A) = endedOn p A
-
--- another record in hand
-pub in-hand : {g : Setting} {m : Lent} {qs : List ℕ} {x : Work} {done : Table} {p : Path} {w : ModelWork} (l : ℕ) (q : Path) (A : At g m qs x done p w) → Is (A .stood .rep .h) (x .used) l q
-    → At g m qs (record { used = x .used; seq = x .seq; link = l; cutoff = x .cutoff; queued = x .queued }) done q w
-in-hand l q A i =
-    let s = A .stood in
-    record {
-      stood = record {
-        places = s .places;
-        fits = s .fits;
-        rep = record { h = s .rep .h; stands = s .rep .stands; finished = s .rep .finished; progress = s .rep .progress; hand = i; newest = s .rep .newest };
-        seq = s .seq;
-        seqs = s .seqs;
-        requeued = s .requeued;
-      };
-      cutoff = A .cutoff;
-      fits = A .fits;
-      queue = A .queue;
-    }
 
 -- ---- one state
 
@@ -81,9 +54,6 @@ ActiveAt g m s = (s < g .states) × (heldAt (m .tokens) (placeIn (1 - g .side) s
 
 abbrev pub EmitStateIs : (g : Setting) → (m m' : Lent) → (qs qs' eps : List ℕ) → Pass → Tables → (cut : Float) → Work → (s : ℕ) → Passed → Type 0
 EmitStateIs g m m' qs qs' eps pass T cut x s r = (G : EmitGiven g m qs eps pass T x) (t : Token) → getD (G .done) s none ≡ some t → EndedBy g m' qs' (G .done) (emitOne G cut s t) r
-
-abbrev pub withLink : Work → (link : ℕ) → Work
-withLink x l = record { used = x .used; seq = x .seq; link = l; cutoff = x .cutoff; queued = x .queued }
 
 module _ {g : Setting} {m : Lent} {qs eps : List ℕ} {pass : Pass} {T : Tables} {x : Work} (G : EmitGiven g m qs eps pass T x) (s : ℕ) (act : ActiveAt g m s) (y : Stored) (y-is : y ≡ tokenOf (cellAt (m .tokens) (m .sums) (placeIn (1 - g .side) s))) where
   abbrev here : Active (G .at .stood .rep .finished) s

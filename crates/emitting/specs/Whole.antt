@@ -40,7 +40,8 @@ use Rattle.arcs.specs.State.{Tables, tables, TablesOf, slice, partOf, rises, in
 use Rattle.emitting.specs.declared.Looked.{Looked}
 use Rattle.emitting.specs.declared.Looked.the-variants.{Refused as NoNext, Next}
 use Rattle.emitting.specs.Look.{outcomeOf, LookAsks, lookFrom, looks, Only12, only-12}
-use Rattle.emitting.specs.Emit.{EndedBy, endedRefused, EmitGiven, EmitStatesIs}
+use Rattle.arcs.specs.Ended.{EndedBy, endedRefused}
+use Rattle.emitting.specs.Emit.{EmitGiven, EmitStatesIs}
 
 -- ---- the look at the best state
 
@@ -207,7 +208,7 @@ module _ {g : Setting} {m : Lent} {qs eps : List ℕ} {T : Tables} {used seq : �
         pub look-refused : (n : ℕ) (r : Looked) → outcomeOf r ≡ look (G .H .graph) (T .arcs .loglikes) (cut .adaptive) (best (G .done)) → r ≡ NoNext n → EndedBy g m₁ qs (G .done) (emittingPass (G .H) (configOf c) (T .arcs .loglikes) (G .done) seq (G .fresh)) (Refused n)
         look-refused n r q e =
             subst (λ (o : Outcome ModelWork). EndedBy g m₁ qs (G .done) o (Refused n)) (sym (pass-is ∙ ap (λ (o : Outcome Float). o >>= onward) (sym q ∙ ap outcomeOf e)))
-            (endedRefused n (λ z. absurd (let k = twelve in omega arith)) (record { h = G .h; used = used; stands = G .stands; finished = kept }))
+            (endedRefused n (λ z. absurd (let k = twelve in omega arith)) (record { h = G .h; used = used; fits = G .fits; stands = G .stands; finished = kept }))
           where
             twelve : n ≡ 12
             twelve = subst Only12 (sym q ∙ ap outcomeOf e) (look-12 (best (G .done)))

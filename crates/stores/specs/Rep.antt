@@ -42,9 +42,10 @@ pub record Rep (b n : ℕ) (m : Lent) (used x : ℕ) (p : Path) (done going : Ta
   pub newest : tag (h used) ≤ fresh
 
 -- what a refusal leaves: the finished table
-pub record Old (b n : ℕ) (m : Lent) (done : Table) : Type 0 where
+pub record Old (b n cap : ℕ) (m : Lent) (done : Table) : Type 0 where
   pub h : ℕ → History
   pub used : ℕ
+  pub fits : used ≤ cap
   pub stands : Stands (storeOf m) used h
   pub finished : Shown h used (m .tokens) (m .sums) (1 - b) n done
 
