@@ -7,7 +7,7 @@ use mathlib.Core.List.{List, _∷_, map}
 use lib.IntN.{pos}
 use lib.ListN.{length, getD}
 use Rattle.lists.specs.Lists.{range}
-use Rattle.model.specs.Basics.{Outcome, ok, refused, _>>=_}
+use Rattle.model.specs.Basics.{Outcome, ok, _>>=_}
 use Rattle.model.specs.Graph.{Arc}
 use Rattle.model.specs.Path.{Token, Table}
 use Rattle.model.specs.Arrive.{Pass as ModelPass, Here, Work as ModelWork, takes, arrive, arriveAll}

@@ -1,24 +1,23 @@
 -- The end of one arriving arc: the lowered cutoff, and the push.
 use mathlib.Core.Path.{_≡_, refl, sym, ap, ap₂, _∙_, subst, subst₂}
 use mathlib.Core.Logic.{_⊎_, inl, inr}
-use Prim.Native.Nat.{ℕ, suc, _+_, _-_, _*_, _≤_, _<_}
+use Prim.Native.Nat.{ℕ, suc, _-_, _<_}
 use native.Mathlib.Omega.{arith}
-use mathlib.Core.Bool.{Bool, true, false, not, _&&_, _||_, cond}
+use mathlib.Core.Bool.{Bool, true, false, not, _&&_, _||_}
 use mathlib.Core.List.{List, _∷_}
-use lib.Dec.{ltb, eqb}
+use lib.Dec.{ltb}
 use lib.IntN.{ℤ}
-use lib.ListN.{length, getD, set, length-set}
+use lib.ListN.{length, getD, length-set}
 use lib.Ieee.{Float}
 use borrow.Author.Tests.{lt-ltb, le-ltb, eq-eqb, ne-eqb}
 use Rattle.lists.specs.Tests.{eq-or-not, never}
 use Rattle.model.specs.Basics.{over, Outcome, ok, refused, _>>=_}
 use Rattle.model.specs.Graph.{Arc, hasEps}
 use Rattle.model.specs.Path.{Path, Token, Table, memℕ}
-use Rattle.model.specs.Arrive.{Here, Work as ModelWork, Change, arcCut, tokenStays, tokenWins, tokenJoins, total, lower, passed, put, push, pushWinner, pushJoined, finish}
+use Rattle.model.specs.Arrive.{Here, Work as ModelWork, Change, total, lower, passed, put, push, pushWinner, pushJoined, finish}
 use Rattle.tokens.specs.Layout.{placeIn, cellAt, requeuedAt, Requeued}
-use Rattle.stores.specs.Shown.{Shown}
 use Rattle.stores.specs.Tables.{shown-same}
-use Rattle.stores.specs.Rep.{Lent, lent, Rep, Old}
+use Rattle.stores.specs.Rep.{Lent, lent, Old}
 use Rattle.arrivals.specs.declared.Arrival.{Arrival}
 use Rattle.arrivals.specs.declared.Setting.{Setting}
 use Rattle.arrivals.specs.declared.Going.{Going}
@@ -32,7 +31,7 @@ use Rattle.arcs.specs.declared.Passed.{Passed}
 use Rattle.arcs.specs.declared.Passed.the-variants.{Refused, On}
 use Rattle.arcs.specs.Part.{passOf, lowered}
 use Rattle.arcs.specs.Queue.{Queued, queued-length, queued-put}
-use Rattle.arcs.specs.Passed.{Ground, goingOf, At, PassedBy, passedRefused, passedOn, movedBy, queuedOn, PushIs, pushFull, pushOn}
+use Rattle.arcs.specs.Passed.{Ground, At, PassedBy, passedRefused, passedOn, movedBy, queuedOn, PushIs, pushFull, pushOn}
 
 -- ---- what the parts of it leave, as the code has it
 

@@ -1,6 +1,6 @@
 -- The choice of pass, and the arcs of one state, as the code has them and as the model has them.
 use mathlib.Core.Path.{_≡_, refl, sym, ap, ap₂, _∙_, subst}
-use Prim.Native.Nat.{ℕ, zero, suc, _+_, _-_, _≤_, _<_}
+use Prim.Native.Nat.{ℕ, zero, suc, _-_, _≤_, _<_}
 use native.Mathlib.Omega.{arith}
 use mathlib.Core.Bool.{Bool, true, false, not, cond}
 use mathlib.Core.List.{List, map}
@@ -12,7 +12,7 @@ use lib.Ieee.{Float}
 use Rattle.lists.specs.Lists.{range}
 use Rattle.lists.specs.Tests.{never}
 use Rattle.model.specs.Basics.{_≺_, _⊕_, _⊖_, 0f, ltℤ, nonzero}
-use Rattle.model.specs.Graph.{Graph, Arc, emits, pdfOf, phoneOf}
+use Rattle.model.specs.Graph.{Graph, Arc}
 use Rattle.model.specs.Checked.{GoodArc, GoodLabel}
 use Rattle.model.specs.Path.{Token}
 use Rattle.model.specs.Arrive.{Pass as ModelPass, emitting, nonemitting, takes, total, lower, Here}

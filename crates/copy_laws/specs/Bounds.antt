@@ -1,4 +1,4 @@
--- What is listed below a path costs from 0 to the margin, and its graph difference grows by at most one step for each kept path that it takes. So the rank and cost of a listed reading are finite and no −0. Assumes nothing.
+-- What is listed below a path costs from 0 to the margin, and its graph difference is at most one step for each kept path that it takes, as long as these are fewer than 2 ^ 24. So the cost of a listed reading is finite and no −0, and so is its rank under that condition. Assumes nothing.
 use mathlib.Core.Path.{_≡_, sym, subst}
 use Prim.Native.Nat.{ℕ, suc, _*_, _^_, _<_}
 use native.Mathlib.Nat.{zero-add, lt-of-le-of-lt, le-of-lt, le-suc, mul-le-mul-right}

@@ -1,4 +1,4 @@
--- Closed cases, decided by computation: what is remembered of a list of calls, and that the claim of the least cost needs each of its conditions. Assumes nothing.
+-- Closed cases, decided by computation: what is remembered of a list of calls, and that the claim of the least cost needs that nothing was cut and that finals do not count. That it needs an accepted start is not shown. Assumes nothing.
 use mathlib.Core.Path.{_≡_, refl}
 use Prim.Native.Nat.{ℕ}
 use native.Mathlib.Omega.{arith}

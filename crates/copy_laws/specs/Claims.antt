@@ -117,7 +117,7 @@ pub record QueueLoops (g : Graph) (c : Config) (l : Limits) (st : State) : Type 
   pub start : eqb (g .start) NO-STATE ≡ false → Runs (during g l st 0 []) (startWork g c) (nonemittingPass (during g l st 0 []) (startWork g c))
   pub frame : (ls : List Float) (w : Work) → emittingPass (during g l st (st .frames) (st .table)) c ls (st .table) (st .seq) (st .fresh) ≡ ok w → Runs (during g l st (st .frames) (st .table)) w (nonemittingPass (during g l st (st .frames) (st .table)) w)
 
--- no cost, graph sum, difference or rank is a NaN, an infinity or −0
+-- no cost, graph sum, difference or rank is a NaN, an infinity or −0; the graph sum and the rank of what takes kept paths, as long as these are fewer than 2 ^ 24
 pub record SumsSure (g : Graph) (st : State) : Type 0 where
   -- an active token's
   pub cost : (s : ℕ) (t : Token) → At (st .table) s t → (tame (t .cost) ≡ true) × Signed (t .cost)

@@ -113,7 +113,7 @@ module _ (g : Graph) (c : Config) (passed : checkGraph g ≡ none) (floats : Flo
             pass-is-loop now (fs ++ (hearing ls (st .table) ∷ [])) good floats (frame-timely g l st fs ls (h .frames)) w (d .active) (d .no-queue) (d .none-requeued);
       }
 
-  -- 8. No cost, graph sum or rank is a NaN, an infinity or −0.
+  -- 8. No cost, graph sum or rank is a NaN, an infinity or −0; the graph sum and the rank of what takes kept paths, as long as these are fewer than 2 ^ 24.
   pub sums-sure : (ks : List (Call × ℕ)) → SumsSure g (reached g c ks .state)
   sums-sure ks =
       let st = reached g c ks .state in

@@ -1,6 +1,6 @@
 -- The emitting pass: what it is given, and what it leaves. Assumes nothing.
-use mathlib.Core.Path.{_≡_, refl, sym, ap, ap₂, _∙_, subst}
-use Prim.Native.Nat.{ℕ, zero, suc, _+_, _-_, _*_, _^_, _≤_, _<_}
+use mathlib.Core.Path.{_≡_, refl, sym, ap, _∙_, subst}
+use Prim.Native.Nat.{ℕ, suc, _+_, _-_, _≤_, _<_}
 use native.Mathlib.Omega.{arith}
 use mathlib.Core.Bool.{Bool, true, false}
 use mathlib.Core.Option.{Option, none, some}
@@ -9,7 +9,7 @@ use lib.IntN.{pos}
 use lib.ListN.{length, getD, drop, drop-of-length-le}
 use lib.Seq.{drop-cons}
 use lib.Ieee.{Float}
-use Rattle.model.specs.Basics.{_≺_, Outcome, ok, refused, _>>=_}
+use Rattle.model.specs.Basics.{_≺_, Outcome, ok, _>>=_}
 use Rattle.model.specs.Graph.{arcsOf}
 use Rattle.model.specs.Path.{Path, Token, Table}
 use Rattle.model.specs.Arrive.{Pass as ModelPass, Here, Work as ModelWork, arriveAll}
@@ -18,15 +18,13 @@ use Rattle.tokens.specs.declared.Token.{Token as Stored}
 use Rattle.tokens.specs.Layout.{placeIn, heldAt, cellAt, cellOf, tokenOf, NextActive}
 use Rattle.stores.specs.Shown.{Is, TokenIs}
 use Rattle.stores.specs.Tables.{Active, active-at, skip-to}
-use Rattle.stores.specs.Rep.{Lent, Old}
+use Rattle.stores.specs.Rep.{Lent}
 use Rattle.arrivals.specs.declared.Setting.{Setting}
-use Rattle.arrivals.specs.declared.Going.{Going}
-use Rattle.arrivals.specs.Stood.{Stood}
 use Rattle.arcs.specs.declared.Pass.{Pass}
 use Rattle.arcs.specs.declared.Work.{Work}
 use Rattle.arcs.specs.declared.Passed.{Passed}
 use Rattle.arcs.specs.declared.Passed.the-variants.{Refused, On}
-use Rattle.arcs.specs.Part.{passOf, SourceIs}
+use Rattle.arcs.specs.Part.{passOf}
 use Rattle.arcs.specs.Passed.{Ground, At}
 use Rattle.arcs.specs.Ended.{EndedBy, endedRefused, endedOn, ended, withLink, in-hand}
 use Rattle.arcs.specs.State.{Tables, TablesOf, StateGiven, StateIs}

@@ -1,6 +1,6 @@
 -- The first look, over one state's part of the arc tables. Assumes nothing.
-use mathlib.Core.Path.{_≡_, refl, sym, ap, ap₂, _∙_, subst}
-use Prim.Native.Nat.{ℕ, zero, suc, _+_, _-_, _≤_, _<_}
+use mathlib.Core.Path.{_≡_, refl, sym, ap, ap₂, _∙_}
+use Prim.Native.Nat.{ℕ, zero, suc, _-_, _<_}
 use native.Mathlib.Omega.{arith}
 use mathlib.Core.Bool.{Bool, true, false}
 use mathlib.Core.List.{List, [], _∷_, map}
@@ -14,7 +14,7 @@ use Rattle.model.specs.Graph.{Graph, Arc, emits}
 use Rattle.model.specs.Arrive.{emitting, lower, loglike}
 use Rattle.model.specs.Passes.{firstLook}
 use Rattle.arcs.specs.declared.Pass.the-variants.{Emitting}
-use Rattle.arcs.specs.Part.{Part, PartOf, arcIn, arcsFrom, byLabel, HeardAt, heard-at, lowerBy, lowered}
+use Rattle.arcs.specs.Part.{Part, arcIn, byLabel, HeardAt, lowerBy, lowered}
 use Rattle.emitting.specs.declared.Looked.{Looked}
 use Rattle.emitting.specs.declared.Looked.the-variants.{Refused, Next}
 

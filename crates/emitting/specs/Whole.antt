@@ -1,20 +1,20 @@
 -- The pass, whole: the cutoffs, the first look, and all states. Assumes nothing.
 use mathlib.Core.Path.{_≡_, refl, sym, ap, ap₂, _∙_, subst}
-use Prim.Native.Nat.{ℕ, zero, suc, _+_, _-_, _*_, _^_, _≤_, _<_}
+use Prim.Native.Nat.{ℕ, _+_, _-_, _^_, _≤_, _<_}
 use native.Mathlib.Omega.{arith}
 use mathlib.Core.Bool.{Bool, true, false}
 use mathlib.Core.Option.{Option, none, some}
-use mathlib.Core.List.{List, [], _∷_}
+use mathlib.Core.List.{List}
 use lib.Dec.{leb, ltb}
 use borrow.Author.Tests.{le-leb, lt-leb}
-use lib.IntN.{ℤ, pos}
-use lib.ListN.{length, getD, replicate, length-replicate}
+use lib.IntN.{ℤ}
+use lib.ListN.{length, getD, replicate}
 use lib.Ieee.{Float, neg}
-use Rattle.model.specs.Basics.{0f, ∞, Outcome, ok, refused, _>>=_}
+use Rattle.model.specs.Basics.{0f, ∞, Outcome, ok, _>>=_}
 use Rattle.model.specs.Graph.{Graph, states, arcsOf}
 use Rattle.model.specs.Checked.{GoodGraph}
-use Rattle.model.specs.Path.{Path, emptyPath, Token, Table}
-use Rattle.model.specs.Cutoff.{best, getCutoff}
+use Rattle.model.specs.Path.{emptyPath, Token, Table}
+use Rattle.model.specs.Cutoff.{best}
 use Rattle.model.specs.Arrive.{emitting, Here, Work as ModelWork}
 use Rattle.model.specs.Passes.{firstLook, look, offsetOf, emitFrom, noTokens, emptyWork, emittingPass}
 use Rattle.cutoff.specs.declared.Config.{Config}
@@ -26,7 +26,7 @@ use Rattle.records.specs.Stands.{Stands}
 use Rattle.copy_laws.specs.Tables.{vacant-none}
 use Rattle.stores.specs.Shown.{Shows, showsNone, showsToken, Shown, is-none}
 use Rattle.stores.specs.Tables.{shown-cleared, shown-uncleared}
-use Rattle.stores.specs.Rep.{Lent, lent, storeOf, Places, Old}
+use Rattle.stores.specs.Rep.{Lent, lent, storeOf, Places}
 use Rattle.arrivals.specs.declared.Setting.{Setting}
 use Rattle.arrivals.specs.Stood.{Stood}
 use Rattle.arcs.specs.declared.Pass.{Pass}

@@ -1,6 +1,6 @@
 // The emitting pass: the Rust's `emitting`.
 ghost use mathlib.Core.Path.{_≡_};
-ghost use Prim.Native.Nat.{_-_, _*_, _≤_, _<_};
+ghost use Prim.Native.Nat.{_-_, _≤_, _<_};
 ghost use lib.ListN.{length};
 ghost use Rattle.model.specs.Basics.{∞};
 ghost use Rattle.stores.specs.Rep.{lent};

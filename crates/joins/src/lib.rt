@@ -30,7 +30,7 @@ enum Meeting {
     Fits,
 }
 
-// Record numbers fall along a history, so the larger number is stepped, and each record is read at most once. `used` says how many records the store holds.
+// Record numbers fall along a history, so the larger number is stepped, and this walk visits each record at most once; words are compared in another. `used` says how many records the store holds.
 fn meet(
     records: &[u32],
     labels: &[i32],

@@ -1,4 +1,4 @@
--- The layout of the record store: record number k + 1 stands at k. Only these accessors and the laws of `Writes` know the strides.
+-- The layout of the record store: record number k + 1 stands at k. The strides stand in these accessors, in what a put and a compaction write, and in every contract that asks for places.
 use Prim.Native.Nat.{ℕ, _+_, _*_, _≤_}
 use mathlib.Core.Bool.{Bool, _||_}
 use mathlib.Core.List.{List}

@@ -1,4 +1,4 @@
--- The layout of the token tables. Only these accessors, and the laws that cite them, know the strides.
+-- The layout of the token tables. The strides stand in these accessors, in the code that reads and writes the tables, compaction's too, and in every contract that asks for places.
 use mathlib.Core.Path.{_≡_}
 use Prim.Native.Nat.{ℕ, suc, _+_, _-_, _*_, _≤_, _<_}
 use mathlib.Core.List.{List}

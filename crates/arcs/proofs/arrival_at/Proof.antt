@@ -1,15 +1,13 @@
 -- What arc i brings, read out of the tables.
-use mathlib.Core.Path.{_≡_, refl, sym, ap, _∙_}
-use Prim.Native.Nat.{ℕ}
+use mathlib.Core.Path.{_≡_}
 use native.Mathlib.Omega.{arith}
-use lib.IntN.{ℤ, pos}
+use lib.IntN.{pos}
 use lib.ListN.{getD}
-use lib.Ieee.{Float, nan}
+use lib.Ieee.{nan}
 use Rattle.model.specs.Ints.{back}
 use Rattle.model.specs.Basics.{_⊕_, 0f}
 use Rattle.lists.specs.Members.{getD-any}
-use Rattle.arrivals.specs.declared.Arrival.{Arrival}
-use Rattle.arcs.specs.Part.{part, heard-at, phone-asks}
+use Rattle.arcs.specs.Part.{heard-at, phone-asks}
 use borrow.Author.Needs.{needs}
 use Rattle.arcs.proofs.arrival_at.Statement.{statement}
 use Rattle.arcs.proofs.arrival_at.Tie as tie

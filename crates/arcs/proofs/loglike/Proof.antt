@@ -1,11 +1,11 @@
 -- The log-likelihood that a label's pdf has.
 use mathlib.Core.Path.{_≡_, sym, ap, _∙_, subst}
-use Prim.Native.Nat.{ℕ, _<_}
+use Prim.Native.Nat.{ℕ}
 use native.Mathlib.Omega.{arith}
 use lib.Dec.{T}
 use lib.IntN.{pos, natAbs}
 use lib.Signed.{nonNeg}
-use lib.ListN.{length, getD}
+use lib.ListN.{getD}
 use lib.Ieee.{nan}
 use Rattle.model.specs.Basics.{0f}
 use Rattle.lists.specs.Members.{getD-any}

@@ -1,8 +1,7 @@
 -- The lower of two, in the emitting pass.
-use mathlib.Core.Path.{_≡_, refl, sym, ap, _∙_}
-use mathlib.Core.Bool.{Bool, true, false, cond}
-use lib.Ieee.{Float}
-use Rattle.model.specs.Basics.{_≺_, _⊕_}
+use mathlib.Core.Path.{sym, ap, _∙_}
+use mathlib.Core.Bool.{Bool, cond}
+use Rattle.model.specs.Basics.{_⊕_}
 use Rattle.arcs.specs.declared.Pass.{Pass}
 use Rattle.arcs.specs.Part.{lowerBy}
 use borrow.Author.Needs.{needs}

@@ -1,7 +1,6 @@
 -- The numbers moved on.
 use mathlib.Core.Path.{ap}
 use lib.Ieee.{Float}
-use Rattle.arcs.specs.declared.Work.{Work}
 use borrow.Author.Needs.{needs}
 use Rattle.arcs.proofs.moved.Statement.{statement}
 use Rattle.arcs.proofs.moved.Tie as tie

@@ -1,13 +1,10 @@
 -- What is not below zero is cast as it is.
-use mathlib.Core.Path.{_≡_, sym, ap, subst}
-use Prim.Native.Nat.{ℕ, _<_, _^_}
+use mathlib.Core.Path.{sym, ap, subst}
 use native.Mathlib.Omega.{arith}
 use lib.Dec.{T}
 use lib.IntN.{ℤ, pos, natAbs}
 use lib.Signed.{nonNeg}
 use lib.ListN.{getD}
-use mir.Syntax.{w32}
-use mir.Val.{toZ, ofZ}
 use Rattle.model.specs.Ints.{back, cast-fits}
 use borrow.Author.Needs.{needs}
 use Rattle.arcs.proofs.number_at.Statement.{statement}

@@ -1,7 +1,7 @@
 -- The test of a label, by the pass.
 use mathlib.Core.Path.{_≡_, refl, sym, ap, _∙_}
 use mathlib.Core.Bool.{Bool, true, false, not}
-use lib.IntN.{ℤ, pos}
+use lib.IntN.{pos}
 use lib.ListN.{getD}
 use Rattle.model.specs.Ints.{zero-test}
 use Rattle.model.specs.Basics.{nonzero}

@@ -1,7 +1,6 @@
 -- The sums, in their order, by the pass.
 use mathlib.Core.Path.{sym, ap, ap₂, _∙_, subst}
 use native.Mathlib.Omega.{arith}
-use lib.ListN.{getD}
 use lib.Ieee.{Float, nan}
 use Rattle.model.specs.Basics.{_⊕_, _⊖_, 0f}
 use Rattle.lists.specs.Members.{getD-any}

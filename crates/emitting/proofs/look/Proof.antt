@@ -1,7 +1,6 @@
 -- The best state's arcs are the parts between its offset and the next.
 use mathlib.Core.Path.{_∙_, ap}
 use native.Mathlib.Omega.{arith}
-use lib.Ieee.{Float}
 use Rattle.model.specs.Basics.{ok}
 use Rattle.emitting.specs.Whole.{looks-none, offset-room, bounds, look-asks, looked}
 use borrow.Author.Needs.{needs}

@@ -1,0 +1,231 @@
+-- The fitter. Assumes nothing.
+use mathlib.Core.Path.{_≡_, refl, sym, ap, ap₂, _∙_, subst}
+use Prim.Native.Nat.{ℕ, _+_, _-_, _/_, _≤_}
+use native.Mathlib.Omega.{arith}
+use mathlib.Core.Bool.{Bool, true, false, not, _&&_, _||_, cond}
+use mathlib.Core.Option.{Option, none, some}
+use mathlib.Core.List.{List, [], _∷_}
+use lib.Dec.{T, leb, ltb}
+use lib.ListN.{length, getD}
+use lib.Ieee.{Float, binary32, fits, nan}
+use borrow.Author.Tests.{leb-true, ltb-true, ltb-false, not-false}
+use Rattle.lists.specs.Lists.{all}
+use Rattle.lists.specs.Members.{member-at}
+use Rattle.lists.specs.Tests.{or-neither, and-both}
+use Rattle.model.specs.Basics.{0f, Refusal as ModelRefusal, refuse}
+use Rattle.model.specs.Graph.{Graph, states, hasEps, runsFrom0, checkGraph}
+use Rattle.model.specs.Checked.{GoodGraph, checked}
+use Rattle.model.specs.Path.{Limits, fullAt}
+use Rattle.model.specs.Passes.{fitted, fair, Places as FitPlaces, checkFit}
+use Rattle.model.specs.Calls.{startCall, call}
+use Rattle.copy_laws.specs.Sums.{All32, Floats32}
+use Rattle.cutoff.specs.declared.Config.{Config}
+use Rattle.cutoff.specs.Costs.{configOf}
+use Rattle.stores.specs.Rep.{Lent, Places}
+use Rattle.fst.specs.declared.Graph.{Graph as Value}
+use Rattle.fst.specs.declared.Refusal.{Refusal}
+use Rattle.fst.specs.declared.Place.the-variants.{Nowhere}
+use Rattle.fst.specs.declared.Built.the-variants.{Accepted, Refused as NotBuilt}
+use Rattle.fst.specs.Answer.{buildOf, builtOf, valueOf, refusalOf, was-accepted}
+use Rattle.fst.specs.Epsilons.{EpsFilled, eps-at, bit}
+use Rattle.arcs.specs.declared.Pass.the-variants.{Nonemitting}
+use Rattle.arcs.specs.State.{Tables, TablesOf}
+use Rattle.decoder.specs.declared.Decoder.{Decoder}
+use Rattle.decoder.specs.declared.Called.{Called}
+use Rattle.decoder.specs.declared.Called.the-variants.{Done as CallDone, Refused as CallRefused}
+use Rattle.decoder.specs.declared.Fitted.{Fitted}
+use Rattle.decoder.specs.declared.Fitted.the-variants.{Unfit, Done, Refused}
+use Rattle.decoder.specs.Represents.{LimitsAre, CalledBy}
+use Rattle.decoder.specs.Begin.{BeginGiven, BeginAsks, BeginIs}
+
+-- ---- places
+
+abbrev pub least : ℕ → ℕ → ℕ
+least a b = cond (ltb b a) b a
+
+abbrev pub capacityOf : Lent → ℕ
+capacityOf m = least (length (m .records) / 8) (least (length (m .labels) / 2) (length (m .gaps) / 2))
+
+-- the places that are judged: of each store that is kept per state, and of the records
+abbrev pub placesOf : Lent → (scratch eps : ℕ) → FitPlaces
+placesOf m scratch eps = record { perState = length (m .tokens) / 8 ∷ length (m .sums) / 4 ∷ scratch ∷ eps ∷ []; records = capacityOf m }
+
+abbrev pub configWrong : Config → Bool
+configWrong c = not (fair (c .beam)) || not (fair (c .«beam_delta»)) || leb (c .«max_active») (c .«min_active»)
+
+abbrev pub perStateWrong : (n tokens sums scratch eps : ℕ) → Bool
+perStateWrong n tk sm scr ep = not (all (λ k. leb n k) (tk / 8 ∷ sm / 4 ∷ scr ∷ ep ∷ []))
+
+-- by the four tests of stores per state, and the one of the records
+abbrev pub wrongBy : (a b d e many : Bool) → Bool
+wrongBy a b d e many = not (a && (b && (d && (e && true)))) || many
+
+abbrev pub unfit : Refusal
+unfit = record { number = 6; place = Nowhere }
+
+-- ---- what a fitting gives
+
+abbrev pub newDecoder : Value → Config → (cap : ℕ) → Decoder
+newDecoder v c cap = record { graph = v; config = c; cap = cap; keeps = false; margin = 0f; side = 0; frames = 0; seq = 0; used = 0 }
+
+abbrev pub fittedBy : Called → Fitted
+fittedBy (CallDone d) = Done d
+fittedBy (CallRefused d f) = Refused d f
+
+-- A refused graph, settings that are refused, or the answer of the fitting's own start, at the exact limits. What is refused by 1 to 6 changes nothing.
+pub data FitIs (g : Graph) (T : Tables) (m m' : Lent) (scratch places : ℕ) (eps eps' : List ℕ) (c : Config) : Fitted → Type 0 where
+  fitGraph : (w : ModelRefusal) → checkGraph g ≡ some w → m' ≡ m → eps' ≡ eps → FitIs g T m m' scratch places eps eps' c (Unfit (refusalOf w))
+  fitUnfit : checkGraph g ≡ none → checkFit g (configOf c) (placesOf m scratch (length eps)) ≡ some 6 → m' ≡ m → eps' ≡ eps → FitIs g T m m' scratch places eps eps' c (Unfit unfit)
+  fitCalled : {r : Called} → checkGraph g ≡ none → checkFit g (configOf c) (placesOf m scratch (length eps)) ≡ none
+      → ((l : Limits) → LimitsAre l (capacityOf m) places → CalledBy g (configOf c) l T m' eps' places (call g (configOf c) l startCall (fitted g)) r) → FitIs g T m m' scratch places eps eps' c (fittedBy r)
+
+-- ---- the checks
+
+module _ (g : Graph) (m : Lent) (scratch eps : ℕ) (c : Config) where
+  abbrev ps : FitPlaces
+  ps = placesOf m scratch eps
+
+  abbrev per : Bool
+  per = perStateWrong (states g) (length (m .tokens)) (length (m .sums)) scratch eps
+
+  abbrev many : Bool
+  many = ltb 1_048_576 (capacityOf m)
+
+  or-assoc : (a b d : Bool) → (a || b || d) ≡ (a || (b || d))
+  or-assoc true b d = refl
+  or-assoc false b d = refl
+
+  check-is : checkFit g (configOf c) ps ≡ refuse 6 (configWrong c || (per || many))
+  unfolding checkFit
+  check-is = ap (refuse 6) (or-assoc (configWrong c) per many)
+
+  pub config-refused : configWrong c ≡ true → checkFit g (configOf c) ps ≡ some 6
+  config-refused e = check-is ∙ ap (λ (b : Bool). refuse 6 (b || (per || many))) e
+
+  pub stores-refused : configWrong c ≡ false → (per || many) ≡ true → checkFit g (configOf c) ps ≡ some 6
+  stores-refused e d = check-is ∙ ap₂ (λ (a b : Bool). refuse 6 (a || b)) e d
+
+  pub fit-accepted : configWrong c ≡ false → (per || many) ≡ false → checkFit g (configOf c) ps ≡ none
+  fit-accepted e d = check-is ∙ ap₂ (λ (a b : Bool). refuse 6 (a || b)) e d
+
+-- ---- the new decoder is one that a start can be given
+
+least-le : (a b : ℕ) → (least a b ≤ a) × (least a b ≤ b)
+least-le a b = go (ltb b a) refl
+  where
+    go : (t : Bool) → ltb b a ≡ t → (cond t b a ≤ a) × (cond t b a ≤ b)
+    go true e = let z = ltb-true b a e in (omega arith, omega arith)
+    go false e = let z = ltb-false b a e in (omega arith, omega arith)
+
+-- what the code knows of a slice of f32 values
+pub all-known : (xs : List Float) → ((i : ℕ) → T (fits binary32 (getD xs i nan))) → All32 xs
+all-known xs k x m = let (i, l, e) = member-at xs x nan m in subst (λ (y : Float). T (fits binary32 y)) e (k i)
+
+bit-test : (b : Bool) → ltb 0 (bit b) ≡ b
+bit-test true = refl
+bit-test false = refl
+
+-- stores that are not refused have the places
+pub places-in : (n tk sm scr ep k : ℕ) → (perStateWrong n tk sm scr ep || ltb 1_048_576 k) ≡ false → (n ≤ tk / 8) × (n ≤ sm / 4) × (n ≤ ep) × (k ≤ 1_048_576)
+places-in n tk sm scr ep k e =
+    let z = not-false (all (λ j. leb n j) (tk / 8 ∷ sm / 4 ∷ scr ∷ ep ∷ [])) (or-neither (perStateWrong n tk sm scr ep) (ltb 1_048_576 k) e .0) in
+    let a = and-both (leb n (tk / 8)) (all (λ j. leb n j) (sm / 4 ∷ scr ∷ ep ∷ [])) z in
+    let b = and-both (leb n (sm / 4)) (all (λ j. leb n j) (scr ∷ ep ∷ [])) (a .1) in
+    let d = and-both (leb n scr) (all (λ j. leb n j) (ep ∷ [])) (b .1) in
+    let f = and-both (leb n ep) true (d .1) in
+    (leb-true n (tk / 8) (a .0), leb-true n (sm / 4) (b .0), leb-true n ep (f .0), ltb-false 1_048_576 k (or-neither (perStateWrong n tk sm scr ep) (ltb 1_048_576 k) e .1))
+
+-- what filling the table of epsilon states asks
+pub fill-asks : (g : Graph) (v : Value) → Accepted v ≡ buildOf g → (ep : ℕ) → v .states ≤ ep → (runsFrom0 (length (g .ilabels)) (g .offsets) ≡ true) × (length (g .offsets) ≤ ep + 1)
+fill-asks g v built ep l =
+    let w = was-accepted g v built in
+    let sh = checked g (w .0) .shape in
+    (sh .rising, let z = sh .offsets in let e = ap (λ (x : Value). x .states) (w .1) in omega arith)
+
+module _ (g : Graph) (T : Tables) (m : Lent) (scratch places : ℕ) (eps eps' : List ℕ) (c : Config) (v : Value) (built : Accepted v ≡ buildOf g) (of : TablesOf g Nonemitting T) (floats : Floats32 g) (long : length eps' ≡ length eps)
+    (filled : EpsFilled (g .offsets) (g .ilabels) eps eps') (stores-ok : (perStateWrong (v .states) (length (m .tokens)) (length (m .sums)) scratch (length eps) || ltb 1_048_576 (capacityOf m)) ≡ false) where
+  pub accepted : checkGraph g ≡ none
+  accepted = was-accepted g v built .0
+
+  value-is : v ≡ valueOf g
+  value-is = was-accepted g v built .1
+
+  good : GoodGraph g
+  good = checked g accepted
+
+  states-are : v .states ≡ states g
+  states-are = ap (λ (x : Value). x .states) value-is
+
+  small : capacityOf m ≤ 1_048_576
+  small = places-in (v .states) (length (m .tokens)) (length (m .sums)) scratch (length eps) (capacityOf m) stores-ok .3
+
+  room : Places (v .states) (capacityOf m) m
+  room =
+      let z = places-in (v .states) (length (m .tokens)) (length (m .sums)) scratch (length eps) (capacityOf m) stores-ok in
+      let x = z .0 in
+      let y = z .1 in
+      let p = least-le (length (m .records) / 8) (least (length (m .labels) / 2) (length (m .gaps) / 2)) in
+      let q = least-le (length (m .labels) / 2) (length (m .gaps) / 2) in
+      let p0 = p .0 in
+      let p1 = p .1 in
+      let q0 = q .0 in
+      let q1 = q .1 in
+      record { tokens = omega arith; sums = omega arith; store = record { records = omega arith; labels = omega arith; gaps = omega arith } }
+
+  eps-room : v .states ≤ length eps
+  eps-room = places-in (v .states) (length (m .tokens)) (length (m .sums)) scratch (length eps) (capacityOf m) stores-ok .2
+
+  pub begin-given : (l : Limits) → LimitsAre l (capacityOf m) places → BeginGiven g (configOf c) l T m eps' places (newDecoder v c (capacityOf m)) (fitted g)
+  begin-given l L =
+      record {
+        fixed = record {
+          good = good;
+          floats = floats;
+          of = of;
+          states-are = states-are;
+          start-is = ap (λ (x : Value). x .start) value-is;
+          pdfs-are = ap (λ (x : Value). x .pdfs) value-is;
+          config-is = refl;
+          limits = L;
+          small = small;
+          side = omega arith;
+          stores = room;
+          eps-long = let z = eps-room in omega arith;
+          eps-is = λ s low. ap (ltb 0) (eps-at g eps eps' filled s (let z = good .shape .offsets in let e = states-are in omega arith)) ∙ bit-test (hasEps g s);
+        };
+        fair = refl;
+        margin-is = refl;
+      }
+
+  -- the limits of the lent stores
+  abbrev own : Limits
+  own = record { full = fullAt (capacityOf m); queue = some places; below = none; kept = none }
+
+  pub begin-asks : (d : Decoder) → d ≡ newDecoder v c (capacityOf m) → BeginAsks T m eps' places d
+  begin-asks d e =
+      subst (BeginAsks T m eps' places) (sym e) (record { g = g; c = configOf c; l = own; st = fitted g; is = begin-given own (record { full = λ ps. refl; queue = refl }) })
+
+  pub fit-called : configWrong c ≡ false → (d : Decoder) → d ≡ newDecoder v c (capacityOf m) → (m' : Lent) (r : Called) → BeginIs T m m' eps' places d r → (f : Fitted) → f ≡ fittedBy r → FitIs g T m m' scratch places eps eps' c f
+  fit-called w d e m' r B f q =
+      subst (FitIs g T m m' scratch places eps eps' c) (sym q)
+      (fitCalled accepted
+      (fit-accepted g m scratch (length eps) c w (subst (λ (n : ℕ). (perStateWrong n (length (m .tokens)) (length (m .sums)) scratch (length eps) || ltb 1_048_576 (capacityOf m)) ≡ false) states-are stores-ok))
+      (λ l L. subst (λ (y : Decoder). BeginIs T m m' eps' places y r) e B g (configOf c) l (fitted g) (begin-given l L)))
+
+-- refused before anything is written
+module _ (g : Graph) (T : Tables) (m : Lent) (scratch places : ℕ) (eps : List ℕ) (c : Config) where
+  pub graph-refused : (f : Refusal) → NotBuilt f ≡ buildOf g → FitIs g T m m scratch places eps eps c (Unfit f)
+  graph-refused f e = go (checkGraph g) refl e
+    where
+      go : (o : Option ModelRefusal) → checkGraph g ≡ o → NotBuilt f ≡ builtOf g o → FitIs g T m m scratch places eps eps c (Unfit f)
+      go none q b = let z : _≡_ {A = ℕ} 0 1 = cc in absurd (omega arith)
+      go (some w) q b = let z : f ≡ refusalOf w = cc in subst (λ (y : Refusal). FitIs g T m m scratch places eps eps c (Unfit y)) (sym z) (fitGraph w q refl refl)
+
+  pub config-unfit : (v : Value) → Accepted v ≡ buildOf g → configWrong c ≡ true → FitIs g T m m scratch places eps eps c (Unfit unfit)
+  config-unfit v b e = fitUnfit (was-accepted g v b .0) (config-refused g m scratch (length eps) c e) refl refl
+
+  pub stores-unfit : (v : Value) → Accepted v ≡ buildOf g → configWrong c ≡ false → (perStateWrong (v .states) (length (m .tokens)) (length (m .sums)) scratch (length eps) || ltb 1_048_576 (capacityOf m)) ≡ true
+      → FitIs g T m m scratch places eps eps c (Unfit unfit)
+  stores-unfit v b e d =
+      fitUnfit (was-accepted g v b .0)
+      (stores-refused g m scratch (length eps) c e (subst (λ (n : ℕ). (perStateWrong n (length (m .tokens)) (length (m .sums)) scratch (length eps) || ltb 1_048_576 (capacityOf m)) ≡ true) (ap (λ (x : Value). x .states) (was-accepted g v b .1)) d)) refl refl

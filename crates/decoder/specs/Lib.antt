@@ -1,0 +1,5 @@
+pub mod Represents
+pub mod Begin
+pub mod Frame
+pub mod Reads
+pub mod Fit

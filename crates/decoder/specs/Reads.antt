@@ -1,0 +1,203 @@
+-- The keep margin, and the reads. Assumes nothing.
+use mathlib.Core.Path.{_≡_, refl, sym, ap, _∙_, subst}
+use Prim.Native.Nat.{ℕ, _-_, _*_, _≤_}
+use native.Mathlib.Omega.{arith}
+use mathlib.Core.Bool.{Bool, true, false, _&&_, cond}
+use mathlib.Core.Option.{Option, none, some}
+use mathlib.Core.List.{List}
+use lib.IntN.{ℤ}
+use lib.ListN.{length}
+use lib.Dec.{T}
+use lib.Ieee.{Float, neg, lt}
+use Rattle.lists.specs.Tests.{holds, is-true}
+use Rattle.real32.specs.Order.{lt-le-trans}
+use Rattle.real32.specs.Small.{huge, tame}
+use Rattle.model.specs.Basics.{_≺_, _≼_, 0f, nowhere, Outcome, ok, refused}
+use Rattle.model.specs.Graph.{Graph, states}
+use Rattle.model.specs.Path.{Limits}
+use Rattle.model.specs.Cutoff.{Config as Settings}
+use Rattle.model.specs.Passes.{State, fair, fairMargin, setKeep}
+use Rattle.model.specs.Calls.{bestPathRead, relativeCostRead, numActiveRead, framesDecodedRead, keepCall, readCall, countAnswer, costAnswer, readAnswer, Said, said, call}
+use Rattle.joins.specs.declared.Margin.the-variants.{Off, Within}
+use Rattle.joins.specs.Model.{marginOf}
+use Rattle.copy_laws.specs.Walks.{Heard}
+use Rattle.stores.specs.Rep.{Lent, lent, Finished}
+use Rattle.fst.specs.declared.Place.the-variants.{Nowhere}
+use Rattle.arcs.specs.State.{Tables}
+use Rattle.traceback.specs.declared.BestPath.{BestPath}
+use Rattle.traceback.specs.Table.{Counted, RelativeIs}
+use Rattle.traceback.specs.Right.{Parts, placesOf, bestAs, BestKeeps, ReadAsks, BestPathRight}
+use Rattle.decoder.specs.declared.Decoder.{Decoder}
+use Rattle.decoder.specs.declared.Called.{Called}
+use Rattle.decoder.specs.declared.Called.the-variants.{Done, Refused}
+use Rattle.decoder.specs.Represents.{Represents, CalledBy, calledDone, calledRefused}
+
+-- ---- the keep margin
+
+abbrev pub asked : (keeps : Bool) → Float → Option Float
+asked keeps x = cond keeps (some x) none
+
+abbrev pub withMargin : Decoder → Bool → Float → Decoder
+withMargin d keeps x = record { graph = d .graph; config = d .config; cap = d .cap; keeps = keeps; margin = x; side = d .side; frames = d .frames; seq = d .seq; used = d .used }
+
+abbrev pub KeepIs : Decoder → Bool → Float → Called → Type 0
+KeepIs d keeps x r =
+    (g : Graph) (c : Settings) (l : Limits) (T : Tables) (m : Lent) (eps : List ℕ) (places : ℕ) (fs : List Heard) (st : State) → Represents g c l T m eps places d fs st → CalledBy g c l T m eps places (call g c l (keepCall (asked keeps x)) st) r
+
+module _ {g : Graph} {c : Settings} {l : Limits} {T : Tables} {m : Lent} {eps : List ℕ} {places : ℕ} {d : Decoder} {fs : List Heard} {st : State} (R : Represents g c l T m eps places d fs st) (keeps : Bool) (x : Float) where
+  abbrev kept : Bool → Said
+  kept b = said st nowhere (elim b as (λ z. Outcome State) [ true ↦ ok (record { margin = asked keeps x; frames = st .frames; table = st .table; seq = st .seq; fresh = st .fresh }) | false ↦ refused 6 ])
+
+  call-is : (b : Bool) → fairMargin (asked keeps x) ≡ b → call g c l (keepCall (asked keeps x)) st ≡ kept b
+  unfolding call setKeep
+  call-is b e = ap kept e
+
+  pub keep-refused : fairMargin (asked keeps x) ≡ false → CalledBy g c l T m eps places (call g c l (keepCall (asked keeps x)) st) (Refused d (record { number = 6; place = Nowhere }))
+  keep-refused e = subst (λ (s : Said). CalledBy g c l T m eps places s (Refused d (record { number = 6; place = Nowhere }))) (sym (call-is false e)) (calledRefused fs refl R)
+
+  pub keep-done : fairMargin (asked keeps x) ≡ true → (d' : Decoder) → d' ≡ withMargin d keeps x → CalledBy g c l T m eps places (call g c l (keepCall (asked keeps x)) st) (Done d')
+  keep-done e d' q =
+      let f = R .fixed in
+      subst (λ (y : Decoder). CalledBy g c l T m eps places (call g c l (keepCall (asked keeps x)) st) (Done y)) (sym q)
+      (subst (λ (s : Said). CalledBy g c l T m eps places s (Done (withMargin d keeps x))) (sym (call-is true e))
+      (calledDone fs refl
+      (record {
+        fixed = record {
+          good = f .good;
+          floats = f .floats;
+          of = f .of;
+          states-are = f .states-are;
+          start-is = f .start-is;
+          pdfs-are = f .pdfs-are;
+          config-is = f .config-is;
+          limits = f .limits;
+          small = f .small;
+          side = f .side;
+          stores = f .stores;
+          eps-long = f .eps-long;
+          eps-is = f .eps-is;
+        };
+        standing = record { active = R .standing .active; frames = R .standing .frames; few = R .standing .few; margin = e };
+        margin-is = margin-so keeps;
+        frames-are = R .frames-are;
+        seq-is = R .seq-is;
+        fits = R .fits;
+        h = R .h;
+        stands = R .stands;
+        finished = R .finished;
+        newest = R .newest;
+      })))
+    where
+      margin-so : (b : Bool) → asked b x ≡ marginOf (cond b (Within x) Off)
+      margin-so true = refl
+      margin-so false = refl
+
+-- the code's two tests are the definition's
+and-true : (b : Bool) → (b && true) ≡ b
+and-true true = refl
+and-true false = refl
+
+below-zero : T (lt (neg huge) 0f)
+unfolding lt neg
+below-zero = tt
+
+pub fair-is : (x : Float) → (0f ≼ x) ≡ true → tame x ≡ fair x
+unfolding tame fair
+fair-is x e =
+    ap (λ (b : Bool). x ≺ huge && b) (is-true (lt-le-trans (neg huge) 0f x below-zero (holds e))) ∙ and-true (x ≺ huge) ∙ sym (ap (λ (b : Bool). b && x ≺ huge) e)
+
+pub unfair-is : (x : Float) → (0f ≼ x) ≡ false → false ≡ fair x
+unfolding fair
+unfair-is x e = sym (ap (λ (b : Bool). b && x ≺ huge) e)
+
+-- ---- the reads, of stores that a call has left
+
+-- what a read is not lent is given beside
+pub record LeftOf (tk : List ℕ) (sm : List Float) (rs : List ℕ) (ls : List ℤ) (d : Decoder) : Type 0 where
+  pub gaps : List Float
+  pub T : Tables
+  pub eps : List ℕ
+  pub places : ℕ
+  pub g : Graph
+  pub c : Settings
+  pub l : Limits
+  pub fs : List Heard
+  pub st : State
+  pub is : Represents g c l T (lent tk sm rs ls gaps) eps places d fs st
+
+abbrev pub FramesIs : Decoder → ℕ → Type 0
+FramesIs d r =
+    (g : Graph) (c : Settings) (l : Limits) (T : Tables) (m : Lent) (eps : List ℕ) (places : ℕ) (fs : List Heard) (st : State) → Represents g c l T m eps places d fs st → call g c l (readCall framesDecodedRead) st .answer ≡ countAnswer r
+
+pub frames-is : (d : Decoder) → FramesIs d (d .frames)
+unfolding call readAnswer
+frames-is d g c l T m eps places fs st R = ap countAnswer (R .frames-are)
+
+pub record ActiveLeft (tk : List ℕ) (d : Decoder) : Type 0 where
+  pub sums : List Float
+  pub records : List ℕ
+  pub labels : List ℤ
+  pub left : LeftOf tk sums records labels d
+
+abbrev pub ActiveIs : List ℕ → Decoder → ℕ → Type 0
+ActiveIs tk d r =
+    (sm : List Float) (rs : List ℕ) (ls : List ℤ) (L : LeftOf tk sm rs ls d) → call (L .g) (L .c) (L .l) (readCall numActiveRead) (L .st) .answer ≡ countAnswer r
+
+module _ {tk : List ℕ} {sm : List Float} {rs : List ℕ} {ls : List ℤ} {d : Decoder} (L : LeftOf tk sm rs ls d) where
+  pub read-asks : (1 - d .side ≤ 1) × (d .graph .states * 8 ≤ length tk) × (d .graph .states * 4 ≤ length sm)
+  read-asks = let f = L .is .fixed in (omega arith, f .stores .tokens, f .stores .sums)
+
+  pub active-is : (r : ℕ) → Counted tk (1 - d .side) (d .graph .states) r → call (L .g) (L .c) (L .l) (readCall numActiveRead) (L .st) .answer ≡ countAnswer r
+  unfolding call readAnswer
+  active-is r C = ap countAnswer (sym (C .is sm (L .is .h) (d .used) (L .st) (L .is .finished)))
+
+  module _ (finals : List Float) (finals-are : L .g .finals ≡ finals) where
+    pub finals-long : d .graph .states ≤ length finals
+    finals-long = let e = ap length finals-are in let k = L .is .fixed .states-are in omega arith
+
+    pub relative-is : (r : Float) → RelativeIs tk sm finals (1 - d .side) (d .graph .states) r → call (L .g) (L .c) (L .l) (readCall relativeCostRead) (L .st) .answer ≡ costAnswer r
+    unfolding call readAnswer
+    relative-is r C = ap costAnswer (sym (C .is (L .g) finals-are (L .is .h) (d .used) (L .st) (L .is .finished)))
+
+    finished : Finished (1 - d .side) (d .graph .states) (lent tk sm rs ls (L .gaps)) (d .used) (L .st .table)
+    finished = record { h = L .is .h; stands = L .is .stands; shown = L .is .finished }
+
+    pub best-asks : ReadAsks tk sm finals rs ls (d .graph .states) (1 - d .side) (d .used)
+    best-asks =
+        let f = L .is .fixed in
+        let z = f .stores .store in
+        let u = L .is .fits in
+        record {
+          side = omega arith;
+          tokens = f .stores .tokens;
+          sums = f .stores .sums;
+          finals = finals-long;
+          records = let k = z .records in omega arith;
+          labels = let k = z .labels in omega arith;
+          few = let k = f .small in omega arith;
+          gaps = L .gaps;
+          table = L .st .table;
+          finished = finished;
+        }
+
+    pub best-is : (use-final : Bool) (m m' : Parts) (r : BestPath) → BestPathRight tk sm finals rs ls (d .graph .states) (1 - d .side) (d .used) (d .frames) use-final m m' r
+        → (bestAs r m' ≡ call (L .g) (L .c) (L .l) (readCall (bestPathRead use-final (placesOf m))) (L .st) .answer) × BestKeeps r m m'
+    unfolding call readAnswer
+    best-is use-final m m' r B = (B .answer (L .g) finals-are (L .gaps) (L .st) (L .is .frames-are) finished, B .kept)
+
+-- a read with final weights
+pub record FinalsLeft (tk : List ℕ) (sm : List Float) (rs : List ℕ) (ls : List ℤ) (finals : List Float) (d : Decoder) : Type 0 where
+  pub left : LeftOf tk sm rs ls d
+  pub finals-are : left .g .finals ≡ finals
+
+pub record RelativeLeft (tk : List ℕ) (sm finals : List Float) (d : Decoder) : Type 0 where
+  pub records : List ℕ
+  pub labels : List ℤ
+  pub left : FinalsLeft tk sm records labels finals d
+
+abbrev pub RelativeCostIs : (tk : List ℕ) (sm finals : List Float) → Decoder → Float → Type 0
+RelativeCostIs tk sm finals d r = (rs : List ℕ) (ls : List ℤ) (F : FinalsLeft tk sm rs ls finals d) → let L = F .left in call (L .g) (L .c) (L .l) (readCall relativeCostRead) (L .st) .answer ≡ costAnswer r
+
+abbrev pub BestPathIs : (tk : List ℕ) (sm : List Float) (rs : List ℕ) (ls : List ℤ) (finals : List Float) → Decoder → (use-final : Bool) → (m m' : Parts) → BestPath → Type 0
+BestPathIs tk sm rs ls finals d use-final m m' r =
+    (F : FinalsLeft tk sm rs ls finals d) → let L = F .left in (bestAs r m' ≡ call (L .g) (L .c) (L .l) (readCall (bestPathRead use-final (placesOf m))) (L .st) .answer) × BestKeeps r m m'

@@ -1,0 +1,679 @@
+// The decoder over lent stores: the fitter, starts, frames, the keep margin, and the reads.
+ghost use mathlib.Core.Path.{_≡_};
+ghost use mathlib.Core.Logic.{_⊎_};
+ghost use Prim.Native.Nat.{_*_, _≤_, _<_};
+ghost use lib.ListN.{length};
+ghost use Rattle.lists.specs.Lists.{all};
+ghost use Rattle.real32.specs.Small.{tame};
+ghost use Rattle.stores.specs.Rep.{lent};
+ghost use Rattle.arcs.specs.State.{tables};
+ghost use Rattle.nonemitting.specs.Expand.{graphTables};
+ghost use Rattle.decoder.specs.Represents.{settingOf, Left};
+ghost use Rattle.decoder.specs.Begin.{movedTo, emptiedOf, turnedOf, BothCleared, BeginAsks, BeginIs};
+ghost use Rattle.decoder.specs.Frame.{frameNumber, NewestIs, BackIs, RunGiven, RunIs, StartIs, FrameIs};
+ghost use mathlib.Core.Bool.{not};
+ghost use Rattle.model.specs.Passes.{fair, fairMargin};
+ghost use Rattle.traceback.specs.Right.{parts};
+ghost use Rattle.decoder.specs.Reads.{asked, withMargin, KeepIs, FramesIs, ActiveLeft, ActiveIs, RelativeLeft, RelativeCostIs, FinalsLeft, BestPathIs};
+ghost use Prim.Native.Nat.{_/_};
+ghost use mathlib.Core.Bool.{_||_};
+ghost use lib.Dec.{ltb};
+ghost use Rattle.fst.specs.Answer.{graphOf};
+ghost use Rattle.decoder.specs.Fit.{least, configWrong, perStateWrong, fittedBy, newDecoder, FitIs};
+use arcs::Passed;
+use arcs::Work;
+use arrivals::Setting;
+use cutoff::Config;
+use fst::Built;
+use fst::Graph;
+use fst::NO_STATE;
+use fst::Place;
+use fst::Refusal;
+use tokens::Token;
+use traceback::BestPath;
+
+// What the decoder holds beside the lent stores: the graph's counts, the settings, the places for records, the keep margin if there is one, which table the
+// next pass writes (the other one is the finished one), the frames decoded, the latest seq and the records in use.
+pub struct Decoder {
+    pub graph: Graph,
+    pub config: Config,
+    pub cap: u32,
+    pub keeps: bool,
+    pub margin: f32,
+    pub side: u32,
+    pub frames: u32,
+    pub seq: u32,
+    pub used: u32,
+}
+
+// A call that is accepted or refused; the decoder goes on with either.
+pub enum Called {
+    Done(Decoder),
+    Refused(Decoder, Refusal),
+}
+
+fn setting_of(d: Decoder) -> Setting
+    ensures { λ r. ⌜ r ≡ settingOf d ⌝ }
+{
+    Setting {
+        side: d.side,
+        states: d.graph.states,
+        cap: d.cap,
+        frame: d.frames,
+        keeps: d.keeps,
+        margin: d.margin,
+    }
+}
+
+// The decoder with another finished table.
+fn moved_to(d: Decoder, side: u32, frames: u32, seq: u32, used: u32) -> Decoder
+    ensures { λ r. ⌜ r ≡ movedTo d side frames seq used ⌝ }
+{
+    let graph = d.graph;
+    let config = d.config;
+    Decoder {
+        graph,
+        config,
+        cap: d.cap,
+        keeps: d.keeps,
+        margin: d.margin,
+        side,
+        frames,
+        seq,
+        used,
+    }
+}
+
+// No tokens, no records and zero frames.
+fn emptied(d: Decoder) -> Decoder
+    ensures { λ r. ⌜ r ≡ emptiedOf d ⌝ }
+{
+    moved_to(d, d.side, 0, 0, 0)
+}
+
+// The table in progress becomes the finished one.
+fn turned(d: Decoder, frames: u32, w: Work) -> Decoder
+    requires { ⌜ d .side ≤ 1 ⌝ }
+    ensures { λ r. ⌜ r ≡ turnedOf d frames w ⌝ }
+{
+    moved_to(d, 1 - d.side, frames, w.seq, w.used)
+}
+
+fn clear_both(tokens: &mut [u32], states: u32)
+    requires { ⌜ states * 8 ≤ length (now tokens) ⌝ }
+    ensures { λ _. ⌜ BothCleared (now (tokens .entry)) (now (tokens .exit)) states ⌝ }
+{
+    tokens::clear(tokens, 0, states);
+    tokens::clear(tokens, 1, states);
+}
+
+// All earlier tokens dropped; the start state's token, then the nonemitting pass with the beam as cutoff.
+fn begin(
+    tokens: &mut [u32],
+    sums: &mut [f32],
+    records: &mut [u32],
+    labels: &mut [i32],
+    gaps: &mut [f32],
+    queue: &mut [u32],
+    eps: &[u8],
+    offsets: &[u32],
+    ilabels: &[i32],
+    olabels: &[i32],
+    weights: &[f32],
+    nextstates: &[u32],
+    tid2pdf: &[i32],
+    tid2phone: &[i32],
+    decoder: Decoder,
+) -> Called
+    requires { ⌜ BeginAsks (graphTables (now offsets) (now ilabels) (now olabels) (now weights) (now nextstates) (now tid2pdf) (now tid2phone)) (lent (now tokens) (now sums) (now records) (now labels) (now gaps)) (now eps) (length (now queue)) decoder ⌝ }
+    ensures { λ r. ⌜ BeginIs (graphTables (now (offsets .entry)) (now (ilabels .entry)) (now (olabels .entry)) (now (weights .entry)) (now (nextstates .entry)) (now (tid2pdf .entry)) (now (tid2phone .entry))) (lent (now (tokens .entry)) (now (sums .entry)) (now (records .entry)) (now (labels .entry)) (now (gaps .entry))) (lent (now (tokens .exit)) (now (sums .exit)) (now (records .exit)) (now (labels .exit)) (now (gaps .exit))) (now (eps .entry)) (length (now (queue .entry))) decoder r ⌝ }
+{
+    let states = decoder.graph.states;
+    let first = decoder.graph.start;
+    clear_both(tokens, states);
+    if first == NO_STATE {
+        return Called::Done(emptied(decoder));
+    }
+    let token = Token {
+        cost: 0.0,
+        graph: 0.0,
+        link: 0,
+        phone: 0,
+        seq: 0,
+    };
+    tokens::put_token(tokens, sums, decoder.side, first, token);
+    let setting = Setting {
+        side: decoder.side,
+        states,
+        cap: decoder.cap,
+        frame: 0,
+        keeps: decoder.keeps,
+        margin: decoder.margin,
+    };
+    let w = Work {
+        used: 0,
+        seq: 0,
+        link: 0,
+        cutoff: decoder.config.beam,
+        queued: 0,
+    };
+    match nonemitting::nonemitting(
+        tokens,
+        sums,
+        records,
+        labels,
+        gaps,
+        queue,
+        eps,
+        offsets,
+        ilabels,
+        olabels,
+        weights,
+        nextstates,
+        tid2pdf,
+        tid2phone,
+        setting,
+        w,
+    ) {
+        Passed::Refused(n) => {
+            clear_both(tokens, states);
+            Called::Refused(
+                emptied(decoder),
+                Refusal {
+                    number: n,
+                    place: Place::Nowhere,
+                },
+            )
+        }
+        Passed::On(end) => Called::Done(turned(decoder, 0, end)),
+    }
+}
+
+// 9: a log-likelihood that is not finite, or of magnitude 2^100 or more.
+fn all_tame(loglikes: &[f32]) -> bool
+    ensures { λ r. ⌜ r ≡ all tame (now (loglikes .entry)) ⌝ }
+{
+    for i in 0..loglikes.len() {
+        if !real32::is_tame(loglikes[i]) {
+            return false;
+        }
+    }
+    true
+}
+
+// 10, 8, 9 of a frame; 0 for none.
+fn check_frame(loglikes: &[f32], frames: u32, pdfs: u32) -> u32
+    ensures { λ r. ⌜ r ≡ frameNumber (now (loglikes .entry)) frames pdfs ⌝ }
+{
+    if 65_536 <= frames {
+        return 10;
+    }
+    if loglikes.len() != pdfs as usize {
+        return 8;
+    }
+    if !all_tame(loglikes) {
+        return 9;
+    }
+    0
+}
+
+fn larger(a: u32, b: u32) -> u32
+    ensures { λ r. ⌜ (a ≤ r) × (b ≤ r) × ((r ≡ a) ⊎ (r ≡ b)) ⌝ }
+{
+    if a < b { b } else { a }
+}
+
+// The newest record of the finished tokens: what a refused frame put on is not used.
+fn newest(tokens: &[u32], sums: &[f32], side: u32, states: u32) -> u32
+    requires { ⌜ (side ≤ 1) × (states * 8 ≤ length (now tokens)) × (states * 4 ≤ length (now sums)) ⌝ }
+    ensures { λ r. ⌜ NewestIs (now (tokens .entry)) (now (sums .entry)) side states r ⌝ }
+{
+    let mut most: u32 = 0;
+    for s in 0..states {
+        most = larger(most, tokens::token_at(tokens, sums, side, s).link);
+    }
+    most
+}
+
+// The emitting pass, then the nonemitting one.
+fn run_frame(
+    tokens: &mut [u32],
+    sums: &mut [f32],
+    records: &mut [u32],
+    labels: &mut [i32],
+    gaps: &mut [f32],
+    queue: &mut [u32],
+    scratch: &mut [f32],
+    eps: &[u8],
+    offsets: &[u32],
+    ilabels: &[i32],
+    olabels: &[i32],
+    weights: &[f32],
+    nextstates: &[u32],
+    tid2pdf: &[i32],
+    tid2phone: &[i32],
+    loglikes: &[f32],
+    setting: Setting,
+    config: Config,
+    used: u32,
+    seq: u32,
+) -> Passed
+    requires { ⌜ RunGiven setting (lent (now tokens) (now sums) (now records) (now labels) (now gaps)) (now queue) (now eps) (tables (now offsets) (now ilabels) (now olabels) (now weights) (now nextstates) (now tid2pdf) (now tid2phone) (now loglikes)) config used seq × (setting .states ≤ length (now scratch)) ⌝ }
+    ensures { λ r. ⌜ RunIs setting (lent (now (tokens .entry)) (now (sums .entry)) (now (records .entry)) (now (labels .entry)) (now (gaps .entry))) (lent (now (tokens .exit)) (now (sums .exit)) (now (records .exit)) (now (labels .exit)) (now (gaps .exit))) (now (queue .entry)) (now (queue .exit)) (now (eps .entry)) (tables (now (offsets .entry)) (now (ilabels .entry)) (now (olabels .entry)) (now (weights .entry)) (now (nextstates .entry)) (now (tid2pdf .entry)) (now (tid2phone .entry)) (now (loglikes .entry))) config used seq r ⌝ }
+{
+    match emitting::emitting(
+        tokens,
+        sums,
+        records,
+        labels,
+        gaps,
+        queue,
+        scratch,
+        eps,
+        offsets,
+        ilabels,
+        olabels,
+        weights,
+        nextstates,
+        tid2pdf,
+        tid2phone,
+        loglikes,
+        setting,
+        config,
+        used,
+        seq,
+    ) {
+        Passed::Refused(n) => Passed::Refused(n),
+        Passed::On(w) => nonemitting::nonemitting(
+            tokens,
+            sums,
+            records,
+            labels,
+            gaps,
+            queue,
+            eps,
+            offsets,
+            ilabels,
+            olabels,
+            weights,
+            nextstates,
+            tid2pdf,
+            tid2phone,
+            setting,
+            w,
+        ),
+    }
+}
+
+fn refused_at(d: Decoder, number: u32) -> Called
+    ensures { λ r. ⌜ r ≡ Called.Refused d (record { number = number; place = Place.AtFrames (d .frames) }) ⌝ }
+{
+    let place = Place::AtFrames(d.frames);
+    Called::Refused(d, Refusal { number, place })
+}
+
+// A refused frame leaves the finished table; the records behind its newest are free again.
+fn go_back(tokens: &[u32], sums: &[f32], d: Decoder) -> Decoder
+    requires { ⌜ (d .side ≤ 1) × (d .graph .states * 8 ≤ length (now tokens)) × (d .graph .states * 4 ≤ length (now sums)) ⌝ }
+    ensures { λ r. ⌜ BackIs (now (tokens .entry)) (now (sums .entry)) d r ⌝ }
+{
+    let used = newest(tokens, sums, 1 - d.side, d.graph.states);
+    moved_to(d, d.side, d.frames, d.seq, used)
+}
+
+// The Rust's `init_decoding`.
+pub fn start(
+    tokens: &mut [u32],
+    sums: &mut [f32],
+    records: &mut [u32],
+    labels: &mut [i32],
+    gaps: &mut [f32],
+    queue: &mut [u32],
+    eps: &[u8],
+    offsets: &[u32],
+    ilabels: &[i32],
+    olabels: &[i32],
+    weights: &[f32],
+    nextstates: &[u32],
+    tid2pdf: &[i32],
+    tid2phone: &[i32],
+    decoder: Decoder,
+) -> Called
+    requires { ⌜ Left (graphTables (now offsets) (now ilabels) (now olabels) (now weights) (now nextstates) (now tid2pdf) (now tid2phone)) (lent (now tokens) (now sums) (now records) (now labels) (now gaps)) (now eps) (length (now queue)) decoder ⌝ }
+    ensures { λ r. ⌜ StartIs (graphTables (now (offsets .entry)) (now (ilabels .entry)) (now (olabels .entry)) (now (weights .entry)) (now (nextstates .entry)) (now (tid2pdf .entry)) (now (tid2phone .entry))) (lent (now (tokens .entry)) (now (sums .entry)) (now (records .entry)) (now (labels .entry)) (now (gaps .entry))) (lent (now (tokens .exit)) (now (sums .exit)) (now (records .exit)) (now (labels .exit)) (now (gaps .exit))) (now (eps .entry)) (length (now (queue .entry))) decoder r ⌝ }
+{
+    begin(
+        tokens,
+        sums,
+        records,
+        labels,
+        gaps,
+        queue,
+        eps,
+        offsets,
+        ilabels,
+        olabels,
+        weights,
+        nextstates,
+        tid2pdf,
+        tid2phone,
+        decoder,
+    )
+}
+
+// The Rust's `advance_frame`. A refused frame leaves every later answer as if it had not been sent.
+pub fn frame(
+    tokens: &mut [u32],
+    sums: &mut [f32],
+    records: &mut [u32],
+    labels: &mut [i32],
+    gaps: &mut [f32],
+    queue: &mut [u32],
+    scratch: &mut [f32],
+    eps: &[u8],
+    offsets: &[u32],
+    ilabels: &[i32],
+    olabels: &[i32],
+    weights: &[f32],
+    nextstates: &[u32],
+    tid2pdf: &[i32],
+    tid2phone: &[i32],
+    loglikes: &[f32],
+    decoder: Decoder,
+) -> Called
+    requires { ⌜ Left (graphTables (now offsets) (now ilabels) (now olabels) (now weights) (now nextstates) (now tid2pdf) (now tid2phone)) (lent (now tokens) (now sums) (now records) (now labels) (now gaps)) (now eps) (length (now queue)) decoder × (decoder .graph .states ≤ length (now scratch)) ⌝ }
+    ensures { λ r. ⌜ FrameIs (graphTables (now (offsets .entry)) (now (ilabels .entry)) (now (olabels .entry)) (now (weights .entry)) (now (nextstates .entry)) (now (tid2pdf .entry)) (now (tid2phone .entry))) (lent (now (tokens .entry)) (now (sums .entry)) (now (records .entry)) (now (labels .entry)) (now (gaps .entry))) (lent (now (tokens .exit)) (now (sums .exit)) (now (records .exit)) (now (labels .exit)) (now (gaps .exit))) (now (eps .entry)) (length (now (queue .entry))) (now (loglikes .entry)) decoder r ⌝ }
+{
+    let wrong = check_frame(loglikes, decoder.frames, decoder.graph.pdfs);
+    if wrong != 0 {
+        return refused_at(decoder, wrong);
+    }
+    let config = decoder.config;
+    match run_frame(
+        tokens,
+        sums,
+        records,
+        labels,
+        gaps,
+        queue,
+        scratch,
+        eps,
+        offsets,
+        ilabels,
+        olabels,
+        weights,
+        nextstates,
+        tid2pdf,
+        tid2phone,
+        loglikes,
+        setting_of(decoder),
+        config,
+        decoder.used,
+        decoder.seq,
+    ) {
+        Passed::Refused(n) => refused_at(go_back(tokens, sums, decoder), n),
+        Passed::On(w) => Called::Done(turned(decoder, decoder.frames + 1, w)),
+    }
+}
+
+// Not negative, finite and below 2^100.
+fn is_fair(x: f32) -> bool
+    ensures { λ r. ⌜ r ≡ fair x ⌝ }
+{
+    0.0 <= x && real32::is_tame(x)
+}
+
+fn with_margin(d: Decoder, keeps: bool, margin: f32) -> Decoder
+    ensures { λ r. ⌜ r ≡ withMargin d keeps margin ⌝ }
+{
+    let graph = d.graph;
+    let config = d.config;
+    Decoder {
+        graph,
+        config,
+        cap: d.cap,
+        keeps,
+        margin,
+        side: d.side,
+        frames: d.frames,
+        seq: d.seq,
+        used: d.used,
+    }
+}
+
+// 6: a margin that is negative, not finite, or 2^100 or more.
+fn margin_wrong(keeps: bool, margin: f32) -> bool
+    ensures { λ r. ⌜ r ≡ not (fairMargin (asked keeps margin)) ⌝ }
+{
+    if !keeps {
+        return false;
+    }
+    !is_fair(margin)
+}
+
+// The keep margin, or none.
+pub fn set_keep(decoder: Decoder, keeps: bool, margin: f32) -> Called
+    ensures { λ r. ⌜ KeepIs decoder keeps margin r ⌝ }
+{
+    if margin_wrong(keeps, margin) {
+        return Called::Refused(
+            decoder,
+            Refusal {
+                number: 6,
+                place: Place::Nowhere,
+            },
+        );
+    }
+    Called::Done(with_margin(decoder, keeps, margin))
+}
+
+pub fn frames_decoded(decoder: Decoder) -> u32
+    ensures { λ r. ⌜ FramesIs decoder r ⌝ }
+{
+    decoder.frames
+}
+
+pub fn num_active(tokens: &[u32], decoder: Decoder) -> u32
+    requires { ⌜ ActiveLeft (now tokens) decoder ⌝ }
+    ensures { λ r. ⌜ ActiveIs (now (tokens .entry)) decoder r ⌝ }
+{
+    traceback::num_active(tokens, decoder.graph.states, 1 - decoder.side)
+}
+
+pub fn final_relative_cost(tokens: &[u32], sums: &[f32], finals: &[f32], decoder: Decoder) -> f32
+    requires { ⌜ RelativeLeft (now tokens) (now sums) (now finals) decoder ⌝ }
+    ensures { λ r. ⌜ RelativeCostIs (now (tokens .entry)) (now (sums .entry)) (now (finals .entry)) decoder r ⌝ }
+{
+    traceback::final_relative_cost(tokens, sums, finals, decoder.graph.states, 1 - decoder.side)
+}
+
+// The best path into lent words, frames and segments, three numbers for each.
+pub fn best_path(
+    tokens: &[u32],
+    sums: &[f32],
+    records: &[u32],
+    labels: &[i32],
+    finals: &[f32],
+    decoder: Decoder,
+    use_final: bool,
+    words: &mut [i32],
+    frames: &mut [u32],
+    segments: &mut [u32],
+) -> BestPath
+    requires { ⌜ FinalsLeft (now tokens) (now sums) (now records) (now labels) (now finals) decoder ⌝ }
+    ensures { λ r. ⌜ BestPathIs (now (tokens .entry)) (now (sums .entry)) (now (records .entry)) (now (labels .entry)) (now (finals .entry)) decoder «use_final» (parts (now (words .entry)) (now (frames .entry)) (now (segments .entry))) (parts (now (words .exit)) (now (frames .exit)) (now (segments .exit))) r ⌝ }
+{
+    traceback::best_path(
+        tokens,
+        sums,
+        finals,
+        records,
+        labels,
+        decoder.graph.states,
+        1 - decoder.side,
+        decoder.used,
+        decoder.frames,
+        use_final,
+        words,
+        frames,
+        segments,
+    )
+}
+
+// A graph or settings that are refused, or a new decoder, whose own start may be refused.
+pub enum Fitted {
+    Unfit(Refusal),
+    Done(Decoder),
+    Refused(Decoder, Refusal),
+}
+
+fn smaller(a: usize, b: usize) -> usize
+    ensures { λ r. ⌜ r ≡ least a b ⌝ }
+{
+    if b < a { b } else { a }
+}
+
+// The places for records: eight numbers in one slice, and two in each of two others.
+fn capacity(records: &[u32], labels: &[i32], gaps: &[f32]) -> usize
+    ensures { λ r. ⌜ r ≡ least (length (now (records .entry)) / 8) (least (length (now (labels .entry)) / 2) (length (now (gaps .entry)) / 2)) ⌝ }
+{
+    smaller(records.len() / 8, smaller(labels.len() / 2, gaps.len() / 2))
+}
+
+// 6, of the settings.
+fn config_wrong(config: Config) -> bool
+    ensures { λ r. ⌜ r ≡ configWrong config ⌝ }
+{
+    if !is_fair(config.beam) {
+        return true;
+    }
+    if !is_fair(config.beam_delta) {
+        return true;
+    }
+    config.max_active <= config.min_active
+}
+
+// 6, of the stores: each that is kept per state has a place for every state, and no more than 1,048,576 records.
+fn stores_wrong(
+    tokens: &[u32],
+    sums: &[f32],
+    scratch: &[f32],
+    eps: &[u8],
+    states: usize,
+    cap: usize,
+) -> bool
+    ensures { λ r. ⌜ r ≡ (perStateWrong states (length (now (tokens .entry))) (length (now (sums .entry))) (length (now (scratch .entry))) (length (now (eps .entry))) || ltb 1_048_576 cap) ⌝ }
+{
+    if tokens.len() / 8 < states {
+        return true;
+    }
+    if sums.len() / 4 < states {
+        return true;
+    }
+    if scratch.len() < states {
+        return true;
+    }
+    if eps.len() < states {
+        return true;
+    }
+    1_048_576 < cap
+}
+
+fn fitted_by(called: Called) -> Fitted
+    ensures { λ r. ⌜ r ≡ fittedBy called ⌝ }
+{
+    match called {
+        Called::Done(d) => Fitted::Done(d),
+        Called::Refused(d, why) => Fitted::Refused(d, why),
+    }
+}
+
+fn new_decoder(graph: Graph, config: Config, cap: u32) -> Decoder
+    ensures { λ r. ⌜ r ≡ newDecoder graph config cap ⌝ }
+{
+    Decoder {
+        graph,
+        config,
+        cap,
+        keeps: false,
+        margin: 0.0,
+        side: 0,
+        frames: 0,
+        seq: 0,
+        used: 0,
+    }
+}
+
+// A new decoder over the lent stores, without margin, after its start.
+pub fn fit(
+    tokens: &mut [u32],
+    sums: &mut [f32],
+    records: &mut [u32],
+    labels: &mut [i32],
+    gaps: &mut [f32],
+    queue: &mut [u32],
+    scratch: &[f32],
+    eps: &mut [u8],
+    offsets: &[u32],
+    ilabels: &[i32],
+    olabels: &[i32],
+    weights: &[f32],
+    nextstates: &[u32],
+    finals: &[f32],
+    tid2pdf: &[i32],
+    tid2phone: &[i32],
+    start: u32,
+    pdfs: u32,
+    config: Config,
+) -> Fitted
+    ensures { λ r. ⌜ FitIs (graphOf (now (offsets .entry)) (now (ilabels .entry)) (now (olabels .entry)) (now (weights .entry)) (now (nextstates .entry)) (now (finals .entry)) (now (tid2pdf .entry)) (now (tid2phone .entry)) start pdfs) (graphTables (now (offsets .entry)) (now (ilabels .entry)) (now (olabels .entry)) (now (weights .entry)) (now (nextstates .entry)) (now (tid2pdf .entry)) (now (tid2phone .entry))) (lent (now (tokens .entry)) (now (sums .entry)) (now (records .entry)) (now (labels .entry)) (now (gaps .entry))) (lent (now (tokens .exit)) (now (sums .exit)) (now (records .exit)) (now (labels .exit)) (now (gaps .exit))) (length (now (scratch .entry))) (length (now (queue .entry))) (now (eps .entry)) (now (eps .exit)) config r ⌝ }
+{
+    match fst::build(
+        offsets,
+        ilabels,
+        olabels,
+        weights,
+        nextstates,
+        finals,
+        tid2pdf,
+        tid2phone,
+        start,
+        pdfs,
+    ) {
+        Built::Refused(why) => Fitted::Unfit(why),
+        Built::Accepted(graph) => {
+            if config_wrong(config) {
+                return Fitted::Unfit(Refusal {
+                    number: 6,
+                    place: Place::Nowhere,
+                });
+            }
+            let cap = capacity(records, labels, gaps);
+            if stores_wrong(tokens, sums, scratch, eps, graph.states as usize, cap) {
+                return Fitted::Unfit(Refusal {
+                    number: 6,
+                    place: Place::Nowhere,
+                });
+            }
+            fst::fill_eps(offsets, ilabels, eps);
+            let d = new_decoder(graph, config, cap as u32);
+            fitted_by(begin(
+                tokens,
+                sums,
+                records,
+                labels,
+                gaps,
+                queue,
+                eps,
+                offsets,
+                ilabels,
+                olabels,
+                weights,
+                nextstates,
+                tid2pdf,
+                tid2phone,
+                d,
+            ))
+        }
+    }
+}
