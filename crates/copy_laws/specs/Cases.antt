@@ -16,7 +16,7 @@ use Rattle.model.specs.Path.{links, wordsBack, above, keptWithin, worthKeeping,
 use Rattle.model.specs.Cutoff.{Config, getCutoff}
 use Rattle.model.specs.Arrive.{total, lower, meets, stepOn, arriving, joined, keeps, keep, checkWinner, fills, beats, loses, settle, passed, put, push, finish, arrive, arriveAll}
 use Rattle.model.specs.Passes.{firstLook, emitFrom, emittingPass, pushFrom, expand, drain, nonemittingPass, dropped, startToken, start, checkFrame, frame, fair, setKeep}
-use Rattle.model.specs.Reads.{rankOne, rankFrom, ranked, Traced, resume, recsOn, trace, bestPath}
+use Rattle.model.specs.Reads.{Ranked, rankOne, rankFrom, ranked, grouped, Traced, resume, recsOn, trace, bestPath}
 use Rattle.model.specs.Calls.{Call, startCall, frameCall}
 use Rattle.copy_laws.specs.Walks.{Walk, sumFrom, sumOf}
 use Rattle.copy_laws.specs.Drops.{dropsTotal, dropsEmit, dropsEmitting, dropsPopped, dropsQueue, dropsNonemitting, dropsStart, dropsFrame}
@@ -142,3 +142,14 @@ unfolding after goTo hasEps arcsOf arcAt links wordsBack above keptWithin worthK
     firstLook emitFrom emittingPass pushFrom expand drain nonemittingPass dropped startToken start checkFrame frame fair setKeep
     rankOne rankFrom ranked resume recsOn trace bestPath sumFrom tame fmin add sub mul neg lt le eq ne ofBits dropsFrame dropsEmitting dropsEmit dropsNonemitting dropsQueue dropsPopped dropsTotal dropsStart
 final-weight-counts = refl
+
+-- two tokens without a word, at 0 and, by an epsilon arc of 7.5, at 1: a list of every token's words has them twice, so that the readings have to be grouped
+abbrev silent : Point
+silent = reached (A-eps (fin false 15 (negsuc 0))) usual (begun ∷ [])
+
+pub words-repeat : (map (λ (r : Ranked). wordsBack (r .token .path)) (ranked (A-eps (fin false 15 (negsuc 0))) (silent .state) false) ≡ [] ∷ [] ∷ []) × (length (grouped (A-eps (fin false 15 (negsuc 0))) (silent .state) false) ≡ 1)
+unfolding after goTo hasEps arcsOf arcAt links wordsBack above keptWithin worthKeeping records live fullAt unlimited
+    getCutoff total lower meets stepOn arriving joined keeps keep checkWinner fills beats loses settle passed put push finish arrive arriveAll
+    firstLook emitFrom emittingPass pushFrom expand drain nonemittingPass dropped startToken start checkFrame frame fair setKeep
+    rankOne rankFrom ranked grouped tame fmin add sub mul neg lt le eq ne ofBits dropsFrame dropsEmitting dropsEmit dropsNonemitting dropsQueue dropsPopped dropsTotal dropsStart
+words-repeat = (refl, refl)
