@@ -195,7 +195,7 @@ fn requeues(tokens: &[u32], eps: &[u8], side: u32, pass: Pass, s: u32) -> bool
     }
 }
 
-// So does a token that a loser was joined to.
+// A token that a loser was joined to goes on from its state too, where `requeues` says so.
 fn push_joined(
     tokens: &mut [u32],
     queue: &mut [u32],

@@ -1,25 +1,23 @@
 // The decoder over lent stores: the fitter, starts, frames, the keep margin, and the reads.
 ghost use mathlib.Core.Path.{_≡_};
 ghost use mathlib.Core.Logic.{_⊎_};
-ghost use Prim.Native.Nat.{_*_, _≤_, _<_};
+ghost use mathlib.Core.Bool.{not, _||_};
+ghost use Prim.Native.Nat.{_*_, _≤_, _<_, _/_};
+ghost use lib.Dec.{ltb};
 ghost use lib.ListN.{length};
 ghost use Rattle.lists.specs.Lists.{all};
 ghost use Rattle.real32.specs.Small.{tame};
 ghost use Rattle.stores.specs.Rep.{lent};
 ghost use Rattle.arcs.specs.State.{tables};
 ghost use Rattle.nonemitting.specs.Expand.{graphTables};
-ghost use Rattle.decoder.specs.Represents.{settingOf, Left};
-ghost use Rattle.decoder.specs.Begin.{movedTo, emptiedOf, turnedOf, BothCleared, BeginAsks, BeginIs};
-ghost use Rattle.decoder.specs.Frame.{frameNumber, NewestIs, BackIs, RunGiven, RunIs, StartIs, FrameIs};
-ghost use mathlib.Core.Bool.{not};
 ghost use Rattle.model.specs.Passes.{fair, fairMargin};
 ghost use Rattle.traceback.specs.Right.{parts};
-ghost use Rattle.decoder.specs.Reads.{asked, withMargin, KeepIs, FramesIs, ActiveLeft, ActiveIs, RelativeLeft, RelativeCostIs, FinalsLeft, BestPathIs};
-ghost use Prim.Native.Nat.{_/_};
-ghost use mathlib.Core.Bool.{_||_};
-ghost use lib.Dec.{ltb};
 ghost use Rattle.fst.specs.Answer.{graphOf};
+ghost use Rattle.decoder.specs.Represents.{settingOf, Left};
+ghost use Rattle.decoder.specs.Begin.{movedTo, emptiedOf, turnedOf, BothCleared, BeginAsks, BeginIs};
 ghost use Rattle.decoder.specs.Fit.{least, configWrong, perStateWrong, fittedBy, newDecoder, FitIs};
+ghost use Rattle.decoder.specs.Frame.{frameNumber, NewestIs, BackIs, RunGiven, RunIs, StartIs, FrameIs};
+ghost use Rattle.decoder.specs.Reads.{asked, withMargin, KeepIs, FramesIs, ActiveLeft, ActiveIs, RelativeLeft, RelativeCostIs, FinalsLeft, BestPathIs};
 use arcs::Passed;
 use arcs::Work;
 use arrivals::Setting;
@@ -48,6 +46,13 @@ pub struct Decoder {
 
 // A call that is accepted or refused; the decoder goes on with either.
 pub enum Called {
+    Done(Decoder),
+    Refused(Decoder, Refusal),
+}
+
+// A graph or settings that are refused, or a new decoder, whose own start may be refused.
+pub enum Fitted {
+    Unfit(Refusal),
     Done(Decoder),
     Refused(Decoder, Refusal),
 }
@@ -189,6 +194,204 @@ fn begin(
     }
 }
 
+// Not negative, finite and below 2^100.
+fn is_fair(x: f32) -> bool
+    ensures { λ r. ⌜ r ≡ fair x ⌝ }
+{
+    0.0 <= x && real32::is_tame(x)
+}
+
+// 6, of the settings.
+fn config_wrong(config: Config) -> bool
+    ensures { λ r. ⌜ r ≡ configWrong config ⌝ }
+{
+    if !is_fair(config.beam) {
+        return true;
+    }
+    if !is_fair(config.beam_delta) {
+        return true;
+    }
+    config.max_active <= config.min_active
+}
+
+fn smaller(a: usize, b: usize) -> usize
+    ensures { λ r. ⌜ r ≡ least a b ⌝ }
+{
+    if b < a { b } else { a }
+}
+
+// The places for records: eight numbers in one slice, and two in each of two others.
+fn capacity(records: &[u32], labels: &[i32], gaps: &[f32]) -> usize
+    ensures { λ r. ⌜ r ≡ least (length (now (records .entry)) / 8) (least (length (now (labels .entry)) / 2) (length (now (gaps .entry)) / 2)) ⌝ }
+{
+    smaller(records.len() / 8, smaller(labels.len() / 2, gaps.len() / 2))
+}
+
+// 6, of the stores: each that is kept per state has a place for every state, and no more than 1,048,576 records.
+fn stores_wrong(
+    tokens: &[u32],
+    sums: &[f32],
+    scratch: &[f32],
+    eps: &[u8],
+    states: usize,
+    cap: usize,
+) -> bool
+    ensures { λ r. ⌜ r ≡ (perStateWrong states (length (now (tokens .entry))) (length (now (sums .entry))) (length (now (scratch .entry))) (length (now (eps .entry))) || ltb 1_048_576 cap) ⌝ }
+{
+    if tokens.len() / 8 < states {
+        return true;
+    }
+    if sums.len() / 4 < states {
+        return true;
+    }
+    if scratch.len() < states {
+        return true;
+    }
+    if eps.len() < states {
+        return true;
+    }
+    1_048_576 < cap
+}
+
+fn new_decoder(graph: Graph, config: Config, cap: u32) -> Decoder
+    ensures { λ r. ⌜ r ≡ newDecoder graph config cap ⌝ }
+{
+    Decoder {
+        graph,
+        config,
+        cap,
+        keeps: false,
+        margin: 0.0,
+        side: 0,
+        frames: 0,
+        seq: 0,
+        used: 0,
+    }
+}
+
+fn fitted_by(called: Called) -> Fitted
+    ensures { λ r. ⌜ r ≡ fittedBy called ⌝ }
+{
+    match called {
+        Called::Done(d) => Fitted::Done(d),
+        Called::Refused(d, why) => Fitted::Refused(d, why),
+    }
+}
+
+// A new decoder over the lent stores, without margin, after its start.
+pub fn fit(
+    tokens: &mut [u32],
+    sums: &mut [f32],
+    records: &mut [u32],
+    labels: &mut [i32],
+    gaps: &mut [f32],
+    queue: &mut [u32],
+    scratch: &[f32],
+    eps: &mut [u8],
+    offsets: &[u32],
+    ilabels: &[i32],
+    olabels: &[i32],
+    weights: &[f32],
+    nextstates: &[u32],
+    finals: &[f32],
+    tid2pdf: &[i32],
+    tid2phone: &[i32],
+    start: u32,
+    pdfs: u32,
+    config: Config,
+) -> Fitted
+    ensures { λ r. ⌜ FitIs (graphOf (now (offsets .entry)) (now (ilabels .entry)) (now (olabels .entry)) (now (weights .entry)) (now (nextstates .entry)) (now (finals .entry)) (now (tid2pdf .entry)) (now (tid2phone .entry)) start pdfs) (graphTables (now (offsets .entry)) (now (ilabels .entry)) (now (olabels .entry)) (now (weights .entry)) (now (nextstates .entry)) (now (tid2pdf .entry)) (now (tid2phone .entry))) (lent (now (tokens .entry)) (now (sums .entry)) (now (records .entry)) (now (labels .entry)) (now (gaps .entry))) (lent (now (tokens .exit)) (now (sums .exit)) (now (records .exit)) (now (labels .exit)) (now (gaps .exit))) (length (now (scratch .entry))) (length (now (queue .entry))) (now (eps .entry)) (now (eps .exit)) config r ⌝ }
+{
+    match fst::build(
+        offsets,
+        ilabels,
+        olabels,
+        weights,
+        nextstates,
+        finals,
+        tid2pdf,
+        tid2phone,
+        start,
+        pdfs,
+    ) {
+        Built::Refused(why) => Fitted::Unfit(why),
+        Built::Accepted(graph) => {
+            if config_wrong(config) {
+                return Fitted::Unfit(Refusal {
+                    number: 6,
+                    place: Place::Nowhere,
+                });
+            }
+            let cap = capacity(records, labels, gaps);
+            if stores_wrong(tokens, sums, scratch, eps, graph.states as usize, cap) {
+                return Fitted::Unfit(Refusal {
+                    number: 6,
+                    place: Place::Nowhere,
+                });
+            }
+            fst::fill_eps(offsets, ilabels, eps);
+            let d = new_decoder(graph, config, cap as u32);
+            fitted_by(begin(
+                tokens,
+                sums,
+                records,
+                labels,
+                gaps,
+                queue,
+                eps,
+                offsets,
+                ilabels,
+                olabels,
+                weights,
+                nextstates,
+                tid2pdf,
+                tid2phone,
+                d,
+            ))
+        }
+    }
+}
+
+// The Rust's `init_decoding`.
+pub fn start(
+    tokens: &mut [u32],
+    sums: &mut [f32],
+    records: &mut [u32],
+    labels: &mut [i32],
+    gaps: &mut [f32],
+    queue: &mut [u32],
+    eps: &[u8],
+    offsets: &[u32],
+    ilabels: &[i32],
+    olabels: &[i32],
+    weights: &[f32],
+    nextstates: &[u32],
+    tid2pdf: &[i32],
+    tid2phone: &[i32],
+    decoder: Decoder,
+) -> Called
+    requires { ⌜ Left (graphTables (now offsets) (now ilabels) (now olabels) (now weights) (now nextstates) (now tid2pdf) (now tid2phone)) (lent (now tokens) (now sums) (now records) (now labels) (now gaps)) (now eps) (length (now queue)) decoder ⌝ }
+    ensures { λ r. ⌜ StartIs (graphTables (now (offsets .entry)) (now (ilabels .entry)) (now (olabels .entry)) (now (weights .entry)) (now (nextstates .entry)) (now (tid2pdf .entry)) (now (tid2phone .entry))) (lent (now (tokens .entry)) (now (sums .entry)) (now (records .entry)) (now (labels .entry)) (now (gaps .entry))) (lent (now (tokens .exit)) (now (sums .exit)) (now (records .exit)) (now (labels .exit)) (now (gaps .exit))) (now (eps .entry)) (length (now (queue .entry))) decoder r ⌝ }
+{
+    begin(
+        tokens,
+        sums,
+        records,
+        labels,
+        gaps,
+        queue,
+        eps,
+        offsets,
+        ilabels,
+        olabels,
+        weights,
+        nextstates,
+        tid2pdf,
+        tid2phone,
+        decoder,
+    )
+}
+
 // 9: a log-likelihood that is not finite, or of magnitude 2^100 or more.
 fn all_tame(loglikes: &[f32]) -> bool
     ensures { λ r. ⌜ r ≡ all tame (now (loglikes .entry)) ⌝ }
@@ -215,24 +418,6 @@ fn check_frame(loglikes: &[f32], frames: u32, pdfs: u32) -> u32
         return 9;
     }
     0
-}
-
-fn larger(a: u32, b: u32) -> u32
-    ensures { λ r. ⌜ (a ≤ r) × (b ≤ r) × ((r ≡ a) ⊎ (r ≡ b)) ⌝ }
-{
-    if a < b { b } else { a }
-}
-
-// The newest record of the finished tokens: what a refused frame put on is not used.
-fn newest(tokens: &[u32], sums: &[f32], side: u32, states: u32) -> u32
-    requires { ⌜ (side ≤ 1) × (states * 8 ≤ length (now tokens)) × (states * 4 ≤ length (now sums)) ⌝ }
-    ensures { λ r. ⌜ NewestIs (now (tokens .entry)) (now (sums .entry)) side states r ⌝ }
-{
-    let mut most: u32 = 0;
-    for s in 0..states {
-        most = larger(most, tokens::token_at(tokens, sums, side, s).link);
-    }
-    most
 }
 
 // The emitting pass, then the nonemitting one.
@@ -305,11 +490,22 @@ fn run_frame(
     }
 }
 
-fn refused_at(d: Decoder, number: u32) -> Called
-    ensures { λ r. ⌜ r ≡ Called.Refused d (record { number = number; place = Place.AtFrames (d .frames) }) ⌝ }
+fn larger(a: u32, b: u32) -> u32
+    ensures { λ r. ⌜ (a ≤ r) × (b ≤ r) × ((r ≡ a) ⊎ (r ≡ b)) ⌝ }
 {
-    let place = Place::AtFrames(d.frames);
-    Called::Refused(d, Refusal { number, place })
+    if a < b { b } else { a }
+}
+
+// The newest record of the finished tokens: what a refused frame put on is not used.
+fn newest(tokens: &[u32], sums: &[f32], side: u32, states: u32) -> u32
+    requires { ⌜ (side ≤ 1) × (states * 8 ≤ length (now tokens)) × (states * 4 ≤ length (now sums)) ⌝ }
+    ensures { λ r. ⌜ NewestIs (now (tokens .entry)) (now (sums .entry)) side states r ⌝ }
+{
+    let mut most: u32 = 0;
+    for s in 0..states {
+        most = larger(most, tokens::token_at(tokens, sums, side, s).link);
+    }
+    most
 }
 
 // A refused frame leaves the finished table; the records behind its newest are free again.
@@ -321,44 +517,11 @@ fn go_back(tokens: &[u32], sums: &[f32], d: Decoder) -> Decoder
     moved_to(d, d.side, d.frames, d.seq, used)
 }
 
-// The Rust's `init_decoding`.
-pub fn start(
-    tokens: &mut [u32],
-    sums: &mut [f32],
-    records: &mut [u32],
-    labels: &mut [i32],
-    gaps: &mut [f32],
-    queue: &mut [u32],
-    eps: &[u8],
-    offsets: &[u32],
-    ilabels: &[i32],
-    olabels: &[i32],
-    weights: &[f32],
-    nextstates: &[u32],
-    tid2pdf: &[i32],
-    tid2phone: &[i32],
-    decoder: Decoder,
-) -> Called
-    requires { ⌜ Left (graphTables (now offsets) (now ilabels) (now olabels) (now weights) (now nextstates) (now tid2pdf) (now tid2phone)) (lent (now tokens) (now sums) (now records) (now labels) (now gaps)) (now eps) (length (now queue)) decoder ⌝ }
-    ensures { λ r. ⌜ StartIs (graphTables (now (offsets .entry)) (now (ilabels .entry)) (now (olabels .entry)) (now (weights .entry)) (now (nextstates .entry)) (now (tid2pdf .entry)) (now (tid2phone .entry))) (lent (now (tokens .entry)) (now (sums .entry)) (now (records .entry)) (now (labels .entry)) (now (gaps .entry))) (lent (now (tokens .exit)) (now (sums .exit)) (now (records .exit)) (now (labels .exit)) (now (gaps .exit))) (now (eps .entry)) (length (now (queue .entry))) decoder r ⌝ }
+fn refused_at(d: Decoder, number: u32) -> Called
+    ensures { λ r. ⌜ r ≡ Called.Refused d (record { number = number; place = Place.AtFrames (d .frames) }) ⌝ }
 {
-    begin(
-        tokens,
-        sums,
-        records,
-        labels,
-        gaps,
-        queue,
-        eps,
-        offsets,
-        ilabels,
-        olabels,
-        weights,
-        nextstates,
-        tid2pdf,
-        tid2phone,
-        decoder,
-    )
+    let place = Place::AtFrames(d.frames);
+    Called::Refused(d, Refusal { number, place })
 }
 
 // The Rust's `advance_frame`. A refused frame leaves every later answer as if it had not been sent.
@@ -414,13 +577,6 @@ pub fn frame(
         Passed::Refused(n) => refused_at(go_back(tokens, sums, decoder), n),
         Passed::On(w) => Called::Done(turned(decoder, decoder.frames + 1, w)),
     }
-}
-
-// Not negative, finite and below 2^100.
-fn is_fair(x: f32) -> bool
-    ensures { λ r. ⌜ r ≡ fair x ⌝ }
-{
-    0.0 <= x && real32::is_tame(x)
 }
 
 fn with_margin(d: Decoder, keeps: bool, margin: f32) -> Decoder
@@ -518,162 +674,4 @@ pub fn best_path(
         frames,
         segments,
     )
-}
-
-// A graph or settings that are refused, or a new decoder, whose own start may be refused.
-pub enum Fitted {
-    Unfit(Refusal),
-    Done(Decoder),
-    Refused(Decoder, Refusal),
-}
-
-fn smaller(a: usize, b: usize) -> usize
-    ensures { λ r. ⌜ r ≡ least a b ⌝ }
-{
-    if b < a { b } else { a }
-}
-
-// The places for records: eight numbers in one slice, and two in each of two others.
-fn capacity(records: &[u32], labels: &[i32], gaps: &[f32]) -> usize
-    ensures { λ r. ⌜ r ≡ least (length (now (records .entry)) / 8) (least (length (now (labels .entry)) / 2) (length (now (gaps .entry)) / 2)) ⌝ }
-{
-    smaller(records.len() / 8, smaller(labels.len() / 2, gaps.len() / 2))
-}
-
-// 6, of the settings.
-fn config_wrong(config: Config) -> bool
-    ensures { λ r. ⌜ r ≡ configWrong config ⌝ }
-{
-    if !is_fair(config.beam) {
-        return true;
-    }
-    if !is_fair(config.beam_delta) {
-        return true;
-    }
-    config.max_active <= config.min_active
-}
-
-// 6, of the stores: each that is kept per state has a place for every state, and no more than 1,048,576 records.
-fn stores_wrong(
-    tokens: &[u32],
-    sums: &[f32],
-    scratch: &[f32],
-    eps: &[u8],
-    states: usize,
-    cap: usize,
-) -> bool
-    ensures { λ r. ⌜ r ≡ (perStateWrong states (length (now (tokens .entry))) (length (now (sums .entry))) (length (now (scratch .entry))) (length (now (eps .entry))) || ltb 1_048_576 cap) ⌝ }
-{
-    if tokens.len() / 8 < states {
-        return true;
-    }
-    if sums.len() / 4 < states {
-        return true;
-    }
-    if scratch.len() < states {
-        return true;
-    }
-    if eps.len() < states {
-        return true;
-    }
-    1_048_576 < cap
-}
-
-fn fitted_by(called: Called) -> Fitted
-    ensures { λ r. ⌜ r ≡ fittedBy called ⌝ }
-{
-    match called {
-        Called::Done(d) => Fitted::Done(d),
-        Called::Refused(d, why) => Fitted::Refused(d, why),
-    }
-}
-
-fn new_decoder(graph: Graph, config: Config, cap: u32) -> Decoder
-    ensures { λ r. ⌜ r ≡ newDecoder graph config cap ⌝ }
-{
-    Decoder {
-        graph,
-        config,
-        cap,
-        keeps: false,
-        margin: 0.0,
-        side: 0,
-        frames: 0,
-        seq: 0,
-        used: 0,
-    }
-}
-
-// A new decoder over the lent stores, without margin, after its start.
-pub fn fit(
-    tokens: &mut [u32],
-    sums: &mut [f32],
-    records: &mut [u32],
-    labels: &mut [i32],
-    gaps: &mut [f32],
-    queue: &mut [u32],
-    scratch: &[f32],
-    eps: &mut [u8],
-    offsets: &[u32],
-    ilabels: &[i32],
-    olabels: &[i32],
-    weights: &[f32],
-    nextstates: &[u32],
-    finals: &[f32],
-    tid2pdf: &[i32],
-    tid2phone: &[i32],
-    start: u32,
-    pdfs: u32,
-    config: Config,
-) -> Fitted
-    ensures { λ r. ⌜ FitIs (graphOf (now (offsets .entry)) (now (ilabels .entry)) (now (olabels .entry)) (now (weights .entry)) (now (nextstates .entry)) (now (finals .entry)) (now (tid2pdf .entry)) (now (tid2phone .entry)) start pdfs) (graphTables (now (offsets .entry)) (now (ilabels .entry)) (now (olabels .entry)) (now (weights .entry)) (now (nextstates .entry)) (now (tid2pdf .entry)) (now (tid2phone .entry))) (lent (now (tokens .entry)) (now (sums .entry)) (now (records .entry)) (now (labels .entry)) (now (gaps .entry))) (lent (now (tokens .exit)) (now (sums .exit)) (now (records .exit)) (now (labels .exit)) (now (gaps .exit))) (length (now (scratch .entry))) (length (now (queue .entry))) (now (eps .entry)) (now (eps .exit)) config r ⌝ }
-{
-    match fst::build(
-        offsets,
-        ilabels,
-        olabels,
-        weights,
-        nextstates,
-        finals,
-        tid2pdf,
-        tid2phone,
-        start,
-        pdfs,
-    ) {
-        Built::Refused(why) => Fitted::Unfit(why),
-        Built::Accepted(graph) => {
-            if config_wrong(config) {
-                return Fitted::Unfit(Refusal {
-                    number: 6,
-                    place: Place::Nowhere,
-                });
-            }
-            let cap = capacity(records, labels, gaps);
-            if stores_wrong(tokens, sums, scratch, eps, graph.states as usize, cap) {
-                return Fitted::Unfit(Refusal {
-                    number: 6,
-                    place: Place::Nowhere,
-                });
-            }
-            fst::fill_eps(offsets, ilabels, eps);
-            let d = new_decoder(graph, config, cap as u32);
-            fitted_by(begin(
-                tokens,
-                sums,
-                records,
-                labels,
-                gaps,
-                queue,
-                eps,
-                offsets,
-                ilabels,
-                olabels,
-                weights,
-                nextstates,
-                tid2pdf,
-                tid2phone,
-                d,
-            ))
-        }
-    }
 }

@@ -9,12 +9,9 @@
 //   records A B  writes the records from A to B: number, the one before, frame, the phone that it starts, the kept history, whether it has a word, whether its gap is 1 or more
 // A new record's frame is the number of records before it. A line that asks for what is not there does nothing.
 ghost use mathlib.Core.Path.{_≡_};
-ghost use Prim.Native.Nat.{ℕ, _+_, _*_, _≤_, _<_};
-ghost use mathlib.Core.List.{List};
-ghost use lib.IntN.{ℤ};
-ghost use lib.Ieee.{Float};
+ghost use Prim.Native.Nat.{_+_, _*_, _≤_, _<_};
 ghost use lib.ListN.{length};
-ghost use Rattle.records.specs.Layout.{Store, store, Room};
+ghost use Rattle.records.specs.Layout.{Store, store};
 ghost use Rattle.store_cases.specs.Ready.{Ready, Lent, LinksOn, RecordsPut, HeldPut};
 use records::Kept;
 
