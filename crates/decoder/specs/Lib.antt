@@ -3,3 +3,4 @@ pub mod Begin
 pub mod Frame
 pub mod Reads
 pub mod Fit
+pub mod Held

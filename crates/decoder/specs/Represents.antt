@@ -78,6 +78,11 @@ pub record Left (T : Tables) (m : Lent) (eps : List ℕ) (places : ℕ) (d : Dec
   pub st : State
   pub is : Represents g c l T m eps places d fs st
 
+-- a frame has a scratch too, with a place for every state
+pub record FrameLeft (T : Tables) (m : Lent) (eps : List ℕ) (places scratch : ℕ) (d : Decoder) : Type 0 where
+  pub left : Left T m eps places d
+  pub wide : d .graph .states ≤ scratch
+
 -- ---- answers
 
 abbrev pub placeOf : StoredPlace → Place

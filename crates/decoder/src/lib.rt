@@ -13,7 +13,7 @@ ghost use Rattle.nonemitting.specs.Expand.{graphTables};
 ghost use Rattle.model.specs.Passes.{fair, fairMargin};
 ghost use Rattle.traceback.specs.Right.{parts};
 ghost use Rattle.fst.specs.Answer.{graphOf};
-ghost use Rattle.decoder.specs.Represents.{settingOf, Left};
+ghost use Rattle.decoder.specs.Represents.{settingOf, Left, FrameLeft};
 ghost use Rattle.decoder.specs.Begin.{movedTo, emptiedOf, turnedOf, BothCleared, BeginAsks, BeginIs};
 ghost use Rattle.decoder.specs.Fit.{least, configWrong, perStateWrong, fittedBy, newDecoder, FitIs};
 ghost use Rattle.decoder.specs.Frame.{frameNumber, NewestIs, BackIs, RunGiven, RunIs, StartIs, FrameIs};
@@ -544,7 +544,7 @@ pub fn frame(
     loglikes: &[f32],
     decoder: Decoder,
 ) -> Called
-    requires { ⌜ Left (graphTables (now offsets) (now ilabels) (now olabels) (now weights) (now nextstates) (now tid2pdf) (now tid2phone)) (lent (now tokens) (now sums) (now records) (now labels) (now gaps)) (now eps) (length (now queue)) decoder × (decoder .graph .states ≤ length (now scratch)) ⌝ }
+    requires { ⌜ FrameLeft (graphTables (now offsets) (now ilabels) (now olabels) (now weights) (now nextstates) (now tid2pdf) (now tid2phone)) (lent (now tokens) (now sums) (now records) (now labels) (now gaps)) (now eps) (length (now queue)) (length (now scratch)) decoder ⌝ }
     ensures { λ r. ⌜ FrameIs (graphTables (now (offsets .entry)) (now (ilabels .entry)) (now (olabels .entry)) (now (weights .entry)) (now (nextstates .entry)) (now (tid2pdf .entry)) (now (tid2phone .entry))) (lent (now (tokens .entry)) (now (sums .entry)) (now (records .entry)) (now (labels .entry)) (now (gaps .entry))) (lent (now (tokens .exit)) (now (sums .exit)) (now (records .exit)) (now (labels .exit)) (now (gaps .exit))) (now (eps .entry)) (length (now (queue .entry))) (now (loglikes .entry)) decoder r ⌝ }
 {
     let wrong = check_frame(loglikes, decoder.frames, decoder.graph.pdfs);

@@ -27,8 +27,8 @@ use Rattle.traceback.specs.declared.Traced.the-variants.{Refused, Writte
 use Rattle.traceback.specs.Trail.{Trail, noTrail, segment, begun, startOf}
 use Rattle.traceback.specs.Chain.{stepOf, backAt, tell, chainTrail, trailFrom, SizeIs}
 use Rattle.traceback.specs.Traced.{numbersOf, Routed, trail-is}
-use Rattle.traceback.specs.Write.{flat, Fits, Wrote}
-use Rattle.traceback.specs.Right.{Parts, parts, placesOf, tooShort, segmentsIn, pathIn, Behind, answerOne, TraceRight}
+use Rattle.traceback.specs.Write.{flat, Wrote}
+use Rattle.traceback.specs.Right.{Parts, parts, placesOf, tooShort, segmentsIn, pathIn, Fits, Behind, answerOne, TraceRight}
 
 -- ---- as many frames as words, and phones that are u32
 
@@ -127,6 +127,7 @@ module _ {t : Trail} {used : ℕ} {z : Size} (size : SizeIs t used z) (even : Ev
   pub behind-written : Behind z (parts W F S) (parts W' F' S')
   behind-written =
       record {
+        fits = fit;
         words = ap₂ drop (size .words) (o .words) ∙ front-left W (t .words) long-words ∙ ap (λ (k : ℕ). drop k W) (sym (size .words));
         frames = ap₂ drop frames-count (o .frames) ∙ front-left F (t .frames) long-frames ∙ ap (λ (k : ℕ). drop k F) (sym frames-count);
         segments = ap₂ drop flat-count (o .segments) ∙ front-left S (flat (t .segments)) long-segments ∙ ap (λ (k : ℕ). drop k S) (sym flat-count);

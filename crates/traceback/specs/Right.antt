@@ -54,8 +54,15 @@ segmentsIn (suc k) (p ∷ s ∷ e ∷ xs) = segment (pos p) s e ∷ segmentsIn k
 abbrev pub pathIn : Parts → Size → (cost : Float) → Told
 pathIn m z c = record { words = take (z .words) (m .words); wordFrames = take (z .words) (m .frames); phones = segmentsIn (z .segments) (m .segments); cost = c }
 
--- what stands behind an answer of this size is unchanged
+-- room for a trace
+pub record Fits (z : Size) (ws : List ℤ) (fs ss : List ℕ) : Type 0 where
+  pub words : z .words ≤ length ws
+  pub frames : z .words ≤ length fs
+  pub segments : z .segments * 3 ≤ length ss
+
+-- an answer of this size has its places, and what stands behind it is unchanged
 pub record Behind (z : Size) (m m' : Parts) : Type 0 where
+  pub fits : Fits z (m .words) (m .frames) (m .segments)
   pub words : drop (z .words) (m' .words) ≡ drop (z .words) (m .words)
   pub frames : drop (z .words) (m' .frames) ≡ drop (z .words) (m .frames)
   pub segments : drop (z .segments * 3) (m' .segments) ≡ drop (z .segments * 3) (m .segments)

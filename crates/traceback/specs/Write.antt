@@ -18,18 +18,13 @@ use Rattle.traceback.specs.declared.Head.{Head}
 use Rattle.traceback.specs.declared.Size.{Size}
 use Rattle.traceback.specs.Trail.{Trail, noTrail, segment, begun, startOf}
 use Rattle.traceback.specs.Chain.{stepOf, backAt, tell, chainTrail, trailFrom, headOn, backIn, Walkable, SizeIs}
+use Rattle.traceback.specs.Right.{Fits}
 use Rattle.traceback.specs.Walk.{step-low, chain-next, NoFront, HeadIs, count-is, start-is, head-begun, head-told}
 
 -- three numbers for each segment
 abbrev pub flat : List Segment → List ℕ
 flat [] = []
 flat (s ∷ ss) = natAbs (s .phone) ∷ s .start ∷ s .end ∷ flat ss
-
--- room for a trace
-pub record Fits (z : Size) (ws : List ℤ) (fs ss : List ℕ) : Type 0 where
-  pub words : z .words ≤ length ws
-  pub frames : z .words ≤ length fs
-  pub segments : z .segments * 3 ≤ length ss
 
 -- the whole trace in front, and the rest unchanged
 pub record Wrote (t : Trail) (ws : List ℤ) (fs ss : List ℕ) (ws' : List ℤ) (fs' ss' : List ℕ) : Type 0 where

@@ -14,8 +14,8 @@ ghost use Rattle.traceback.specs.Table.{Counted, FinalsCount, LeastsAre,
 ghost use Rattle.traceback.specs.Ranks.{weightIn, rankIn, candidateAt, BestIs, soonestOf};
 ghost use Rattle.traceback.specs.Trail.{noTrail};
 ghost use Rattle.traceback.specs.Chain.{takesKept, ownStep, goesOn, keptStep, stepOf, headOn, backIn, Walkable, trailFrom, SizeIs};
-ghost use Rattle.traceback.specs.Write.{WordAsks, WordPut, withHead, BegunIn, Fits, Wrote};
-ghost use Rattle.traceback.specs.Right.{tooShort, parts, TraceRight, ReadAsks, BestPathRight};
+ghost use Rattle.traceback.specs.Write.{WordAsks, WordPut, withHead, BegunIn, Wrote};
+ghost use Rattle.traceback.specs.Right.{Fits, tooShort, parts, TraceRight, ReadAsks, BestPathRight};
 use tokens::next_active;
 
 // The Rust's `num_active`.

@@ -20,13 +20,13 @@ setting-of-requires : tie.Need-setting-of-requires
 setting-of-requires c κs = search needs
 
 run-frame-requires : tie.Need-run-frame-requires
-run-frame-requires c κs = (run-asks (c .before .before .before .before .before .before .before .before .before .before .before .before .before .before .before .before .before .before .before .before .before .before .pre .0 .is) _ (no-fault (c .before .before .before .before .before .before .before .before .before .before .before .before .before .before .before .before .before .before .before .before .before .before .pre .0 .is) _ _ (c .before .before .before .before .before .before .before .before .before .before .check-frame .ensures) (c .before .before .before .before .before .before .before .before .before .if1 .left)) _ refl _ (c .setting-of .ensures) _ refl, let e = ap (λ (s : Setting). s .states) (c .setting-of .ensures) in let z = c .before .before .before .before .before .before .before .before .before .before .before .before .before .before .before .before .before .before .before .before .before .before .pre .1 in omega arith)
+run-frame-requires c κs = (run-asks (c .before .before .before .before .before .before .before .before .before .before .before .before .before .before .before .before .before .before .before .before .before .before .pre .left .is) _ (no-fault (c .before .before .before .before .before .before .before .before .before .before .before .before .before .before .before .before .before .before .before .before .before .before .pre .left .is) _ _ (c .before .before .before .before .before .before .before .before .before .before .check-frame .ensures) (c .before .before .before .before .before .before .before .before .before .if1 .left)) _ refl _ (c .setting-of .ensures) _ refl, let e = ap (λ (s : Setting). s .states) (c .setting-of .ensures) in let z = c .before .before .before .before .before .before .before .before .before .before .before .before .before .before .before .before .before .before .before .before .before .before .pre .wide in omega arith)
 
 enum-known-n : tie.Need-enum-known-n
 enum-known-n c = search needs
 
 go-back-requires : tie.Need-go-back-requires
-go-back-requires c κs = let f = c .before .before .before .before .before .before .before .before .before .before .before .before .before .before .before .before .before .before .before .before .before .before .before .before .before .before .before .before .before .before .before .before .before .before .before .before .before .before .before .before .before .pre .0 .is .fixed in
+go-back-requires c κs = let f = c .before .before .before .before .before .before .before .before .before .before .before .before .before .before .before .before .before .before .before .before .before .before .before .before .before .before .before .before .before .before .before .before .before .before .before .before .before .before .before .before .before .pre .left .is .fixed in
     (f .side, let z = f .stores .tokens in let k = c .before .before .before .before .before .before .before .before .before .before .before .before .before .before .before .before .before .before .run-frame .kept .0 in omega arith, let z = f .stores .sums in let k = c .before .before .before .before .before .before .before .before .before .before .before .before .before .before .before .before .before .before .run-frame .kept .1 .0 in omega arith)
 
 refused-at-requires-2 : tie.Need-refused-at-requires-2
@@ -36,10 +36,10 @@ enum-known-w : tie.Need-enum-known-w
 enum-known-w c = search needs
 
 add-turned : tie.Need-add-turned
-add-turned c = let R = c .before .before .before .before .before .before .before .before .before .before .before .before .before .before .before .before .before .before .before .before .before .before .before .before .before .before .before .before .before .before .before .before .before .before .before .before .before .before .before .before .pre .0 .is in let z = can R (c .before .before .before .before .before .before .before .before .before .before .before .before .before .before .before .before .before .before .before .before .before .before .before .before .before .before .before .before .before .before .before .before .before .before .before .before .before .before .before .before .args .loglikes .now) (no-fault R (c .before .before .before .before .before .before .before .before .before .before .before .before .before .before .before .before .before .before .before .before .before .before .before .before .before .before .before .before .before .before .before .before .before .before .before .before .before .before .before .before .args .loglikes .now) _ (c .before .before .before .before .before .before .before .before .before .before .before .before .before .before .before .before .before .before .before .before .before .before .before .before .before .before .before .before .check-frame .ensures) (c .before .before .before .before .before .before .before .before .before .before .before .before .before .before .before .before .before .before .before .before .before .before .before .before .before .before .before .if1 .left)) .few in let k = R .frames-are in record { fits = omega arith }
+add-turned c = let R = c .before .before .before .before .before .before .before .before .before .before .before .before .before .before .before .before .before .before .before .before .before .before .before .before .before .before .before .before .before .before .before .before .before .before .before .before .before .before .before .before .pre .left .is in let z = can R (c .before .before .before .before .before .before .before .before .before .before .before .before .before .before .before .before .before .before .before .before .before .before .before .before .before .before .before .before .before .before .before .before .before .before .before .before .before .before .before .before .args .loglikes .now) (no-fault R (c .before .before .before .before .before .before .before .before .before .before .before .before .before .before .before .before .before .before .before .before .before .before .before .before .before .before .before .before .before .before .before .before .before .before .before .before .before .before .before .before .args .loglikes .now) _ (c .before .before .before .before .before .before .before .before .before .before .before .before .before .before .before .before .before .before .before .before .before .before .before .before .before .before .before .before .check-frame .ensures) (c .before .before .before .before .before .before .before .before .before .before .before .before .before .before .before .before .before .before .before .before .before .before .before .before .before .before .before .if1 .left)) .few in let k = R .frames-are in record { fits = omega arith }
 
 turned-requires : tie.Need-turned-requires
-turned-requires c κs = c .before .before .before .before .before .before .before .before .before .before .before .before .before .before .before .before .before .before .before .before .before .before .before .before .before .before .before .before .before .before .before .before .before .before .before .before .before .before .before .before .pre .0 .is .fixed .side
+turned-requires c κs = c .before .before .before .before .before .before .before .before .before .before .before .before .before .before .before .before .before .before .before .before .before .before .before .before .before .before .before .before .before .before .before .before .before .before .before .before .before .before .before .before .pre .left .is .fixed .side
 
 same-length : tie.Need-same-length
 same-length c = search needs

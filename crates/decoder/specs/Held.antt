@@ -1,0 +1,115 @@
+-- What a caller holds from call to call, and how each call's contract hands it on. Assumes nothing.
+use mathlib.Core.Path.{_≡_, refl}
+use Prim.Native.Nat.{ℕ, _/_, _≤_}
+use native.Mathlib.Omega.{arith}
+use mathlib.Core.Bool.{Bool, true, false, not, _||_}
+use mathlib.Core.Option.{none, some}
+use mathlib.Core.List.{List, [], _∷_}
+use lib.Dec.{leb, ltb}
+use lib.IntN.{ℤ}
+use lib.ListN.{length}
+use lib.Ieee.{Float}
+use borrow.Author.Tests.{leb-true, not-false}
+use Rattle.lists.specs.Lists.{all}
+use Rattle.lists.specs.Tests.{or-neither, and-both}
+use Rattle.model.specs.Basics.{refuse}
+use Rattle.model.specs.Graph.{Graph, states}
+use Rattle.model.specs.Path.{Limits, fullAt}
+use Rattle.model.specs.Cutoff.{Config as Settings}
+use Rattle.model.specs.Passes.{State, fitted, checkFit}
+use Rattle.model.specs.Calls.{Call, startCall, call, Said}
+use Rattle.copy_laws.specs.Walks.{Heard}
+use Rattle.cutoff.specs.declared.Config.{Config}
+use Rattle.cutoff.specs.Costs.{configOf}
+use Rattle.stores.specs.Rep.{Lent, lent}
+use Rattle.fst.specs.declared.Refusal.{Refusal}
+use Rattle.arcs.specs.State.{Tables}
+use Rattle.decoder.specs.declared.Decoder.{Decoder}
+use Rattle.decoder.specs.declared.Called.{Called}
+use Rattle.decoder.specs.declared.Called.the-variants.{Done, Refused}
+use Rattle.decoder.specs.declared.Fitted.{Fitted}
+use Rattle.decoder.specs.declared.Fitted.the-variants.{Unfit, Done as FitDone, Refused as FitRefused}
+use Rattle.decoder.specs.Represents.{Represents, Left, FrameLeft, CalledBy, calledDone, calledRefused}
+use Rattle.decoder.specs.Reads.{FinalsLeft, ActiveLeft, RelativeLeft}
+use Rattle.decoder.specs.Fit.{capacityOf, placesOf, configWrong, fittedBy, FitIs, fitGraph, fitUnfit, fitCalled}
+
+-- stores that a call has left, of a graph with these final weights, and a scratch for every state
+pub record Held (T : Tables) (m : Lent) (finals : List Float) (eps : List ℕ) (places scratch : ℕ) (d : Decoder) : Type 0 where
+  pub left : Left T m eps places d
+  pub finals-are : left .g .finals ≡ finals
+  pub wide : states (left .g) ≤ scratch
+
+-- a decoder goes on after a call, accepted or refused
+abbrev pub HeldBy : (T : Tables) (m : Lent) (finals : List Float) (eps : List ℕ) (places scratch : ℕ) → Called → Type 0
+HeldBy T m finals eps places scratch (Done d) = Held T m finals eps places scratch d
+HeldBy T m finals eps places scratch (Refused d f) = Held T m finals eps places scratch d
+
+-- there is one after a fitting that is not refused by 1 to 6
+abbrev pub HeldFitted : (T : Tables) (m : Lent) (finals : List Float) (eps : List ℕ) (places scratch : ℕ) → Fitted → Type 0
+HeldFitted T m finals eps places scratch (Unfit f) = Unit {0}
+HeldFitted T m finals eps places scratch (FitDone d) = Held T m finals eps places scratch d
+HeldFitted T m finals eps places scratch (FitRefused d f) = Held T m finals eps places scratch d
+
+-- ---- a call's contract hands it on
+
+-- what a start, a frame and a keep margin promise of their call
+abbrev pub Promised : (T : Tables) (m m' : Lent) (eps : List ℕ) (places : ℕ) → Call → Decoder → Called → Type 0
+Promised T m m' eps places k d r =
+    (g : Graph) (c : Settings) (l : Limits) (fs : List Heard) (st : State) → Represents g c l T m eps places d fs st → CalledBy g c l T m' eps places (call g c l k st) r
+
+module _ (T : Tables) (finals : List Float) (eps : List ℕ) (places scratch : ℕ) where
+  called-held : (g : Graph) (c : Settings) (l : Limits) (m : Lent) (s : Said) (r : Called) → g .finals ≡ finals → states g ≤ scratch → CalledBy g c l T m eps places s r → HeldBy T m finals eps places scratch r
+  called-held g c l m s r e w (calledDone fs a R) = record { left = record { g = g; c = c; l = l; fs = fs; st = s .state; is = R }; finals-are = e; wide = w }
+  called-held g c l m s r e w (calledRefused fs a R) = record { left = record { g = g; c = c; l = l; fs = fs; st = s .state; is = R }; finals-are = e; wide = w }
+
+  pub call-held : (m m' : Lent) (k : Call) (d : Decoder) (r : Called) → Promised T m m' eps places k d r → Held T m finals eps places scratch d → HeldBy T m' finals eps places scratch r
+  call-held m m' k d r P H =
+      let L = H .left in
+      called-held (L .g) (L .c) (L .l) m' (call (L .g) (L .c) (L .l) k (L .st)) r (H .finals-are) (H .wide) (P (L .g) (L .c) (L .l) (L .fs) (L .st) (L .is))
+
+-- accepted settings come with scratch for every state
+scratch-wide : (g : Graph) (m : Lent) (scratch eps : ℕ) (c : Config) → checkFit g (configOf c) (placesOf m scratch eps) ≡ none → states g ≤ scratch
+unfolding checkFit
+scratch-wide g m scratch eps c e =
+    let four = all (λ k. leb (states g) k) (length (m .tokens) / 8 ∷ length (m .sums) / 4 ∷ scratch ∷ eps ∷ []) in
+    let no = passed (configWrong c || not four || ltb 1_048_576 (capacityOf m)) e in
+    let a = or-neither (configWrong c || not four) (ltb 1_048_576 (capacityOf m)) no .0 in
+    let z = not-false four (or-neither (configWrong c) (not four) a .1) in
+    let b = and-both (leb (states g) (length (m .tokens) / 8)) (all (λ k. leb (states g) k) (length (m .sums) / 4 ∷ scratch ∷ eps ∷ [])) z in
+    let d = and-both (leb (states g) (length (m .sums) / 4)) (all (λ k. leb (states g) k) (scratch ∷ eps ∷ [])) (b .1) in
+    leb-true (states g) scratch (and-both (leb (states g) scratch) (all (λ k. leb (states g) k) (eps ∷ [])) (d .1) .0)
+  where
+    passed : (b : Bool) → refuse 6 b ≡ none → b ≡ false
+    passed true q = let z : _≡_ {A = ℕ} 0 1 = cc in absurd (omega arith)
+    passed false q = refl
+
+pub fit-held : (g : Graph) (T : Tables) (m m' : Lent) (scratch places : ℕ) (eps eps' : List ℕ) (c : Config) (f : Fitted) → FitIs g T m m' scratch places eps eps' c f → HeldFitted T m' (g .finals) eps' places scratch f
+fit-held g T m m' scratch places eps eps' c f (fitGraph w a b e) = tt
+fit-held g T m m' scratch places eps eps' c f (fitUnfit a b e i) = tt
+fit-held g T m m' scratch places eps eps' c f (fitCalled {r} a b k) =
+    so r (called-held T (g .finals) eps' places scratch g (configOf c) own m' (call g (configOf c) own startCall (fitted g)) r refl (scratch-wide g m scratch (length eps) c b) (k own (record { full = λ ps. refl; queue = refl })))
+  where
+    own : Limits
+    own = record { full = fullAt (capacityOf m); queue = some places; below = none; kept = none }
+
+    so : (r : Called) → HeldBy T m' (g .finals) eps' places scratch r → HeldFitted T m' (g .finals) eps' places scratch (fittedBy r)
+    so (Done d) H = H
+    so (Refused d f) H = H
+
+-- ---- and meets what a call asks
+
+module _ {T : Tables} {finals : List Float} {eps : List ℕ} {places scratch : ℕ} {d : Decoder} where
+  pub frame-left : (m : Lent) → Held T m finals eps places scratch d → FrameLeft T m eps places scratch d
+  frame-left m H = record { left = H .left; wide = let z = H .left .is .fixed .states-are in let k = H .wide in omega arith }
+
+  module _ {tk : List ℕ} {sm : List Float} {rs : List ℕ} {ls : List ℤ} {gs : List Float} (H : Held T (lent tk sm rs ls gs) finals eps places scratch d) where
+    pub finals-left : FinalsLeft tk sm rs ls finals d
+    finals-left =
+        let L = H .left in
+        record { left = record { gaps = gs; T = T; eps = eps; places = places; g = L .g; c = L .c; l = L .l; fs = L .fs; st = L .st; is = L .is }; finals-are = H .finals-are }
+
+    pub relative-left : RelativeLeft tk sm finals d
+    relative-left = record { records = rs; labels = ls; left = finals-left }
+
+    pub active-left : ActiveLeft tk d
+    active-left = record { sums = sm; records = rs; labels = ls; left = finals-left .left }
