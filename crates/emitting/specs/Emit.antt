@@ -17,7 +17,7 @@ use Rattle.model.specs.Passes.{emitFrom}
 use Rattle.tokens.specs.declared.Token.{Token as Stored}
 use Rattle.tokens.specs.Layout.{placeIn, heldAt, cellAt, cellOf, tokenOf, NextActive}
 use Rattle.stores.specs.Shown.{Is, TokenIs}
-use Rattle.stores.specs.Tables.{Active, active-at, skip-to}
+use Rattle.stores.specs.Tables.{Active, active-at, stored-is, skip-to}
 use Rattle.stores.specs.Rep.{Lent}
 use Rattle.arrivals.specs.declared.Setting.{Setting}
 use Rattle.arcs.specs.declared.Pass.{Pass}
@@ -60,21 +60,8 @@ module _ {g : Setting} {m : Lent} {qs eps : List ℕ} {pass : Pass} {T : Tables}
   abbrev t : Token
   t = here .token
 
-  read : y ≡ tokenOf (cellOf (here .stored))
-  read = y-is ∙ ap tokenOf (here .cell)
-
-  one-less : suc (here .stored .link) - 1 ≡ here .stored .link
-  one-less = omega arith
-
   pub is : TokenIs (G .at .stood .rep .h) (x .used) y t
-  is =
-      record {
-        cost = ap (λ (z : Stored). z .cost) read ∙ here .is .cost;
-        graph = ap (λ (z : Stored). z .graph) read ∙ here .is .graph;
-        link = subst (λ (l : ℕ). Is (G .at .stood .rep .h) (x .used) l (t .path)) (sym (ap (λ (z : Stored). z .link) read ∙ one-less)) (here .is .link);
-        phone = ap (λ (z : Stored). pos (z .phone)) read ∙ here .is .phone;
-        seq = ap (λ (z : Stored). z .seq) read ∙ here .is .seq;
-      }
+  is = subst (λ (z : Stored). TokenIs (G .at .stood .rep .h) (x .used) z t) (sym (y-is ∙ stored-is (G .at .stood .rep .finished) here)) (here .is)
 
   abbrev pub state-given : StateGiven g m qs eps pass T (withLink x (y .link)) y s
   state-given =

@@ -1,4 +1,4 @@
--- A weight is finite where it lies between the infinities; an element's default does not count. Assumes nothing.
+-- Final weights: past the list's end the definition has +∞, and an element's default does not count. Assumes nothing.
 use mathlib.Core.Path.{_≡_, refl, sym, _∙_, ap}
 use mathlib.Core.Bool.{true, false}
 use mathlib.Core.List.{List, [], _∷_}
@@ -15,19 +15,6 @@ use Rattle.fst.specs.declared.Place.the-variants.{AtState}
 use Rattle.fst.specs.declared.Found.the-variants.{Nothing, Fault}
 use Rattle.fst.specs.Answer.{foundOf}
 use Rattle.fst.proofs.Walk.{at-end, in-turn, refuses, passes}
-
-pub finite-between : (w : Float) → lt w (inf false) ≡ true → lt (inf true) w ≡ finite w
-unfolding lt
-finite-between nan e = never e
-finite-between (inf true) e = refl
-finite-between (inf false) e = never e
-finite-between (fin s m k) e = refl
-
-pub not-below-infinity : (w : Float) → lt w (inf false) ≡ false → finite w ≡ false
-unfolding lt
-not-below-infinity nan e = refl
-not-below-infinity (inf s) e = refl
-not-below-infinity (fin s m k) e = never (sym e)
 
 -- past the end the definition has +∞
 pub no-weight : (xs : List Float) (i : ℕ) → length xs ≤ i → finite (getD xs i (inf false)) ≡ false

@@ -368,8 +368,7 @@ pub fn is_final(finals: &[f32], state: u32) -> bool
     if finals.len() <= s {
         return false;
     }
-    let weight = finals[s];
-    weight < real32::infinity() && -real32::infinity() < weight
+    real32::is_finite(finals[s])
 }
 
 // Whether one state's arcs, a part of the table, hold an epsilon arc.

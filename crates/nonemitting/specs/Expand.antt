@@ -18,7 +18,7 @@ use Rattle.tokens.specs.declared.Token.{Token as Stored}
 use Rattle.tokens.specs.Layout.{cellAt, cellOf, heldAt, placeIn, tokenOf}
 use Rattle.tokens.specs.Held.{some-held, none-held}
 use Rattle.stores.specs.Shown.{Is, Shown}
-use Rattle.stores.specs.Tables.{Active, active-at, vacant-at}
+use Rattle.stores.specs.Tables.{Active, active-at, stored-is, vacant-at}
 use Rattle.stores.specs.Rep.{Lent}
 use Rattle.arrivals.specs.declared.Setting.{Setting}
 use Rattle.arcs.specs.declared.Pass.the-variants.{Nonemitting}
@@ -61,9 +61,6 @@ any-frame ls of = record { offsets = of .offsets; ilabels = of .ilabels; olabels
 
 -- ---- what becomes of the state
 
-token-of : (t : Stored) → tokenOf (cellOf t) ≡ t
-token-of t = let e : suc (t .link) - 1 ≡ t .link = omega arith in λ i. record { cost = t .cost; graph = t .graph; link = e i; phone = t .phone; seq = t .seq }
-
 abbrev expandBy : Here → ℕ → Token → ModelWork → Bool → Outcome ModelWork
 expandBy H s t w b = elim b as (λ z. Outcome ModelWork) [ true ↦ ok w | false ↦ arriveAll H nonemitting t (arcsOf (H .graph) s) w ]
 
@@ -87,11 +84,8 @@ module _ {g : Setting} {m : Lent} {qs eps : List ℕ} {T : Tables} {x : Work} {s
     abbrev act : Active shown s
     act = active-at shown s (G .low) (some-held _ e)
 
-    stored-is : source ≡ act .stored
-    stored-is = is ∙ ap tokenOf (act .cell) ∙ token-of (act .stored)
-
     source-is : SourceIs source (act .token)
-    source-is = subst (λ (z : Stored). SourceIs z (act .token)) (sym stored-is) (record { cost = act .is .cost; graph = act .is .graph; phone = act .is .phone })
+    source-is = subst (λ (z : Stored). SourceIs z (act .token)) (sym (is ∙ stored-is shown act)) (record { cost = act .is .cost; graph = act .is .graph; phone = act .is .phone })
 
     goes : {b : Bool} → (x .cutoff ≼ source .cost) ≡ b → expandOf G ≡ expandBy (G .H) s (act .token) (G .w) b
     unfolding expand
@@ -112,7 +106,7 @@ module _ {g : Setting} {m : Lent} {qs eps : List ℕ} {T : Tables} {x : Work} {s
           w = G .w;
           done = G .done;
           ground = G .ground;
-          at = in-hand (source .link) (act .token .path) (G .at) (subst (λ (z : Stored). Is (G .at .stood .rep .h) (x .used) (z .link) (act .token .path)) (sym stored-is) (act .is .link));
+          at = in-hand (source .link) (act .token .path) (G .at) (subst (λ (z : Stored). Is (G .at .stood .rep .h) (x .used) (z .link) (act .token .path)) (sym (is ∙ stored-is shown act)) (act .is .link));
           token = source-is;
           of = any-frame ls (G .of);
           low = G .low;

@@ -1,4 +1,4 @@
--- Laws of f32 (most of them of any binary format): the order, sums, what is not rounded, a rank, magnitudes, the least, and laws that do not hold.
+-- Laws of f32 (most of them of any binary format): the order, sums, what is not rounded, a rank, magnitudes, the least, what is finite, and laws that do not hold.
 pub mod Order
 pub mod Sum
 pub mod Exact
@@ -6,3 +6,4 @@ pub mod Rank
 pub mod Small
 pub mod Least
 pub mod Limits
+pub mod Finite

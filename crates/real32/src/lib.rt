@@ -1,6 +1,7 @@
-// The one test of magnitude, +∞, and the laws of f32 in specs/.
+// The tests of magnitude, +∞, and the laws of f32 in specs/.
 ghost use mathlib.Core.Path.{_≡_};
 ghost use lib.Ieee.{inf};
+ghost use lib.Ieee.Scale.{finite};
 ghost use mathlib.Core.Bool.{false};
 ghost use Rattle.real32.specs.Small.{tame};
 
@@ -16,4 +17,10 @@ pub fn infinity() -> f32
     ensures { λ r. ⌜ r ≡ inf false ⌝ }
 {
     1.0 / 0.0
+}
+
+pub fn is_finite(x: f32) -> bool
+    ensures { λ r. ⌜ r ≡ finite x ⌝ }
+{
+    x < infinity() && -infinity() < x
 }

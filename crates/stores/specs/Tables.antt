@@ -11,7 +11,7 @@ use lib.Ieee.{Float}
 use Rattle.lists.specs.Tests.{case, eq-or-not}
 use Rattle.model.specs.Path.{Token, Table}
 use Rattle.tokens.specs.declared.Token.{Token as Stored}
-use Rattle.tokens.specs.Layout.{Cell, cellAt, cellOf, heldAt, placeIn, TokenPut, Cleared, NextActive}
+use Rattle.tokens.specs.Layout.{Cell, cellAt, cellOf, tokenOf, heldAt, placeIn, TokenPut, Cleared, NextActive}
 use Rattle.records.specs.History.{History}
 use Rattle.stores.specs.Shown.{TokenIs, Shows, showsNone, showsToken, Shown, sides-apart}
 
@@ -45,6 +45,9 @@ module _ {h : ℕ → History} {used : ℕ} {tk tk' : List ℕ} {sm : List Float
 
 -- ---- a walk over the active states
 
+token-back : (y : Stored) → tokenOf (cellOf y) ≡ y
+token-back y = let e : suc (y .link) - 1 ≡ y .link = omega arith in λ i. record { cost = y .cost; graph = y .graph; link = e i; phone = y .phone; seq = y .seq }
+
 module _ {h : ℕ → History} {used : ℕ} {tk : List ℕ} {sm : List Float} {b n : ℕ} {ts : Table} (w : Shown h used tk sm b n ts) where
   -- a place that holds nothing, and one that holds something
   pub vacant-at : (s : ℕ) → s < n → heldAt tk (placeIn b s) ≡ 0 → getD ts s none ≡ none
@@ -69,6 +72,10 @@ module _ {h : ℕ → History} {used : ℕ} {tk : List ℕ} {sm : List Float} {b
       go : (o : Option Token) → getD ts s none ≡ o → Shows h used (cellAt tk sm (placeIn b s)) o → Active s
       go none e (showsNone q) = absurd (d q)
       go (some t) e (showsToken y q i) = record { token = t; stored = y; at = e; cell = q; is = i }
+
+  -- what is read there
+  pub stored-is : {s : ℕ} (a : Active s) → tokenOf (cellAt tk sm (placeIn b s)) ≡ a .stored
+  stored-is a = ap tokenOf (a .cell) ∙ token-back (a .stored)
 
   module _ {A : Type 0} (f : ℕ → Table → A) (skips : (s : ℕ) (rest : Table) → f s (none ∷ rest) ≡ f (suc s) rest) where
     skip-by : (k s : ℕ) → s + k ≤ n → ((i : ℕ) → s ≤ i → i < s + k → heldAt tk (placeIn b i) ≡ 0) → f s (drop s ts) ≡ f (s + k) (drop (s + k) ts)

@@ -1,5 +1,4 @@
 -- What the contracts of the reads cite, and its laws.
-pub mod Floats
 pub mod Table
 pub mod Ranks
 pub mod Ranking

@@ -19,7 +19,7 @@ use Rattle.tokens.specs.Layout.{cellAt, cellOf, tokenOf, heldAt, placeIn}
 use Rattle.tokens.specs.Held.{some-held, none-held}
 use Rattle.records.specs.History.{History}
 use Rattle.stores.specs.Shown.{TokenIs, Shown}
-use Rattle.stores.specs.Tables.{vacant-at, active-at}
+use Rattle.stores.specs.Tables.{vacant-at, active-at, stored-is}
 use Rattle.tokens.specs.declared.Token.{Token as Stored}
 use Rattle.traceback.specs.declared.Candidate.{Candidate}
 use Rattle.traceback.specs.declared.Best.{Best}
@@ -111,9 +111,6 @@ module _ (h : ℕ → History) (used n : ℕ) (ts : Table) where
 
 -- ---- one state more, as the stores show it
 
-token-back : (y : Stored) → tokenOf (cellOf y) ≡ y
-token-back y = let e : suc (y .link) - 1 ≡ y .link = omega arith in λ j. record { cost = y .cost; graph = y .graph; link = e j; phone = y .phone; seq = y .seq }
-
 weight-is : (g : Graph) (fs : List Float) (s : ℕ) (counts : Bool) → g .finals ≡ fs → s < length fs → weightIn fs s counts ≡ cond counts (finalWeight g s) 0f
 weight-is g fs s counts q l = ap (λ (x : Float). cond counts x 0f) (getD-any fs s nan ∞ l ∙ ap (λ (xs : List Float). getD xs s ∞) (sym q))
 
@@ -131,11 +128,10 @@ module _ {h : ℕ → History} {used : ℕ} {tk : List ℕ} {sm : List Float} {b
   unfolding rankFrom
   pick-active fs q long d p =
       let a = active-at w s l d in
-      let y : tokenOf (cellAt tk sm (placeIn b s)) ≡ a .stored = ap tokenOf (a .cell) ∙ token-back (a .stored) in
       let v = weight-is g fs s counts q (omega arith) in
       let r = pick-token h used n ts s l (a .stored) (a .token) (a .at) (a .is) (cond counts (finalWeight g s) 0f) counts best (rankFrom g counts (suc s) (drop (suc s) ts)) p in
       subst (λ (rs : List Ranked). Picks h used n ts (soonestOf (candidateAt tk sm fs b s counts) best) (head? (sortBy sooner rs))) (sym (from-here (some (a .token)) (a .at)))
-      (subst (λ (x : Best). Picks h used n ts (soonestOf x best) (head? (sortBy sooner (rankFrom g counts s (some (a .token) ∷ drop (suc s) ts))))) (sym (ap₂ (λ (t : Stored) (u : Float). candidateOf s t u counts) y v)) r)
+      (subst (λ (x : Best). Picks h used n ts (soonestOf x best) (head? (sortBy sooner (rankFrom g counts s (some (a .token) ∷ drop (suc s) ts))))) (sym (ap₂ (λ (t : Stored) (u : Float). candidateOf s t u counts) (stored-is w a) v)) r)
 
 -- ---- the loop
 

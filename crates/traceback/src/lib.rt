@@ -6,7 +6,6 @@ ghost use mathlib.Core.Bool.{_&&_, _||_};
 ghost use lib.Dec.{ltb};
 ghost use lib.ListN.{length};
 ghost use lib.Ieee.{eq};
-ghost use lib.Ieee.Scale.{finite};
 ghost use Rattle.real32.specs.Least.{fmin};
 ghost use Rattle.model.specs.Basics.{_≺_};
 ghost use Rattle.model.specs.Path.{memℕ};
@@ -57,12 +56,6 @@ fn lesser(x: f32, y: f32) -> f32
     if y < x { y } else { x }
 }
 
-pub fn is_finite(x: f32) -> bool
-    ensures { λ r. ⌜ r ≡ finite x ⌝ }
-{
-    x < real32::infinity() && -real32::infinity() < x
-}
-
 // The least cost, and the least with its final weight: +∞ where there is none.
 struct Leasts {
     cost: f32,
@@ -97,10 +90,10 @@ pub fn final_relative_cost(
     ensures { λ r. ⌜ RelativeIs (now (tokens .entry)) (now (sums .entry)) (now (finals .entry)) side states r ⌝ }
 {
     let least = least_costs(tokens, sums, finals, states, side);
-    if is_finite(least.cost) {
+    if real32::is_finite(least.cost) {
         return least.ending - least.cost;
     }
-    if is_finite(least.ending) {
+    if real32::is_finite(least.ending) {
         return least.ending - least.cost;
     }
     real32::infinity()
@@ -156,7 +149,7 @@ pub fn candidate_at(
     let t = tokens::token_at(tokens, sums, side, s);
     let weight = end_weight(finals, s, counts);
     let cost = t.cost + weight;
-    if !is_finite(cost) {
+    if !real32::is_finite(cost) {
         return Best::Nobody;
     }
     let rank = rank_of(cost, t.graph, weight, counts);

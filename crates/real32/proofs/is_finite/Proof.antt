@@ -2,10 +2,10 @@
 use mathlib.Core.Path.{_≡_, sym, ap, _∙_, subst}
 use mathlib.Core.Bool.{true, false}
 use lib.Ieee.{Float, neg, lt}
-use Rattle.traceback.specs.Floats.{finite-between, not-below-infinity}
+use Rattle.real32.specs.Finite.{finite-between, not-below-infinity}
 use borrow.Author.Needs.{needs}
-use Rattle.traceback.proofs.is_finite.Statement.{statement}
-use Rattle.traceback.proofs.is_finite.Tie as tie
+use Rattle.real32.proofs.is_finite.Statement.{statement}
+use Rattle.real32.proofs.is_finite.Tie as tie
 
 infinity-requires : tie.Need-infinity-requires
 infinity-requires c κs = search needs
