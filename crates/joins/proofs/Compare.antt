@@ -9,7 +9,7 @@ use lib.Ieee.{Float}
 use borrow.Author.Tests.{le-leb, lt-leb}
 use Rattle.lists.specs.Tests.{case, either, lt-or-le}
 use Rattle.model.specs.Basics.{eqℤ, nonzero}
-use Rattle.model.specs.Ints.{eqℤ-true, eqℤ-refl}
+use Rattle.model.specs.Ints.{eqℤ-true, eqℤ-refl, sameWords-refl}
 use Rattle.model.specs.Path.{withWord, sameWords}
 use Rattle.records.specs.History.{History}
 use Rattle.records.specs.Layout.{store, prevAt, wordAt}
@@ -38,3 +38,10 @@ module _ {rs : List ℕ} {ls : List ℤ} {n r m q : ℕ} (N : NextWord rs ls n r
 
   pub ends-with : {l : List ℤ} → l ≡ [] → sameWords l (wordsTo h m r) ≡ leb q m
   ends-with e = case (lt-or-le m q) (λ u. one-ends e (N .some u gs h ok) .0 ∙ sym (lt-leb q m u)) (λ u. rw (e, N .none u gs h ok, le-leb q m u))
+
+-- two histories that are at one record read the same from there on
+pub one-record : {rs : List ℕ} {ls : List ℤ} {n a b m p q : ℕ} → NextWord rs ls n a m p → NextWord rs ls n b m q → p ≡ q → (gs : List Float) (h : ℕ → History) → Stands (store rs ls gs) n h
+    → sameWords (wordsTo h m a) (wordsTo h m b) ≡ true
+one-record {b = b} {m = m} {q = q} M N e gs h ok =
+    let L = rw e at M in
+    rw (case (lt-or-le m q) (λ u. L .some u gs h ok ∙ sym (N .some u gs h ok)) (λ u. L .none u gs h ok ∙ sym (N .none u gs h ok))) (sameWords-refl (wordsTo h m b))

@@ -22,7 +22,7 @@ module _ (s : Step) (p : Path) (e : plain (arcOn s p) ≡ true) where
   unfolding plain
   own-arc = not-true (s .beside) (and-both (not (s .beside)) (plain p) e .0)
 
-  plain-rest : plain p ≡ true
+  pub plain-rest : plain p ≡ true
   unfolding plain
   plain-rest = and-both (not (s .beside)) (plain p) e .1
 
@@ -60,7 +60,7 @@ module _ (ns : List ℕ) where
 
 -- ---- words and kept histories
 
-words-are : (p : Path) → plain p ≡ true → wordsBack p ≡ wordsOf (historyOf p)
+pub words-are : (p : Path) → plain p ≡ true → wordsBack p ≡ wordsOf (historyOf p)
 unfolding wordsBack wordsOf historyOf plain
 words-are emptyPath e = refl
 words-are (arcOn s p) e =

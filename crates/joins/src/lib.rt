@@ -61,7 +61,7 @@ fn meet(
 }
 
 // The newest record with a word from `r` down to `met`; `met` or a lower number where there is none.
-fn next_word(records: &[u32], labels: &[i32], used: u32, r: u32, met: u32) -> u32
+pub fn next_word(records: &[u32], labels: &[i32], used: u32, r: u32, met: u32) -> u32
     requires { ⌜ (Chains (now records) (now labels) used) × (r ≤ used) × (met ≤ used) ⌝ }
     ensures { λ q. ⌜ NextWord (now (records .entry)) (now (labels .entry)) used r met q ⌝ }
 {
@@ -75,8 +75,8 @@ fn next_word(records: &[u32], labels: &[i32], used: u32, r: u32, met: u32) -> u3
     q
 }
 
-// Whether the two histories read the same words above the record `met`.
-fn same_above(records: &[u32], labels: &[i32], used: u32, won: u32, lost: u32, met: u32) -> bool
+// Whether the two histories read the same words above the record `met`. Once both are at one record, they do from there on.
+pub fn same_above(records: &[u32], labels: &[i32], used: u32, won: u32, lost: u32, met: u32) -> bool
     requires { ⌜ (Chains (now records) (now labels) used) × (won ≤ used) × (lost ≤ used) × (met ≤ used) ⌝ }
     ensures { λ r. ⌜ SameWords (now (records .entry)) (now (labels .entry)) used won lost (pos 0) met r ⌝ }
 {
@@ -85,6 +85,9 @@ fn same_above(records: &[u32], labels: &[i32], used: u32, won: u32, lost: u32, m
     loop {
         a = next_word(records, labels, used, a, met);
         b = next_word(records, labels, used, b, met);
+        if a == b {
+            return true;
+        }
         if a <= met {
             return b <= met;
         }

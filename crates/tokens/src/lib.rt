@@ -39,6 +39,15 @@ fn one_less(n: u32) -> u32
     if n == 0 { 0 } else { n - 1 }
 }
 
+// The newest record of the token in a place; 0 where there is none.
+pub fn link_at(tokens: &[u32], side: u32, s: u32) -> u32
+    requires { ⌜ (side ≤ 1) × (s * 8 + 8 ≤ length (now tokens)) ⌝ }
+    ensures { λ r. ⌜ r ≡ heldAt (now (tokens .entry)) (placeIn side s) - 1 ⌝ }
+{
+    let p = s as usize * 2 + side as usize;
+    one_less(tokens[p * 4])
+}
+
 // The token in a place; its record is 0 where there is none.
 pub fn token_at(tokens: &[u32], sums: &[f32], side: u32, s: u32) -> Token
     requires { ⌜ (side ≤ 1) × (s * 8 + 8 ≤ length (now tokens)) × (s * 4 + 4 ≤ length (now sums)) ⌝ }

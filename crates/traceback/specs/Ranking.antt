@@ -111,7 +111,7 @@ module _ (h : ℕ → History) (used n : ℕ) (ts : Table) where
 
 -- ---- one state more, as the stores show it
 
-weight-is : (g : Graph) (fs : List Float) (s : ℕ) (counts : Bool) → g .finals ≡ fs → s < length fs → weightIn fs s counts ≡ cond counts (finalWeight g s) 0f
+pub weight-is : (g : Graph) (fs : List Float) (s : ℕ) (counts : Bool) → g .finals ≡ fs → s < length fs → weightIn fs s counts ≡ cond counts (finalWeight g s) 0f
 weight-is g fs s counts q l = ap (λ (x : Float). cond counts x 0f) (getD-any fs s nan ∞ l ∙ ap (λ (xs : List Float). getD xs s ∞) (sym q))
 
 module _ {h : ℕ → History} {used : ℕ} {tk : List ℕ} {sm : List Float} {b n : ℕ} {ts : Table} (w : Shown h used tk sm b n ts) (g : Graph) (counts : Bool) (s : ℕ) (l : s < n) (best : Best) where

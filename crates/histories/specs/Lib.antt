@@ -1,0 +1,3 @@
+-- What histories read.
+pub mod Reading
+pub mod Laws

@@ -1,0 +1,46 @@
+-- What the program holds between its calls of the decoder. Assumes nothing.
+use mathlib.Core.Path.{_≡_, refl, sym, subst}
+use Prim.Native.Nat.{ℕ}
+use mathlib.Core.List.{List}
+use lib.IntN.{ℤ}
+use lib.Ieee.{Float}
+use lib.ListN.{length}
+use Rattle.model.specs.Graph.{Graph}
+use Rattle.model.specs.Calls.{frameCall}
+use Rattle.cutoff.specs.declared.Config.{Config}
+use Rattle.stores.specs.Rep.{Lent}
+use Rattle.arcs.specs.State.{Tables}
+use Rattle.decoder.specs.declared.Decoder.{Decoder}
+use Rattle.decoder.specs.declared.Called.{Called}
+use Rattle.decoder.specs.declared.Called.the-variants.{Done}
+use Rattle.decoder.specs.declared.Fitted.{Fitted}
+use Rattle.decoder.specs.declared.Fitted.the-variants.{Done as FitDone}
+use Rattle.decoder.specs.Frame.{FrameIs}
+use Rattle.decoder.specs.Fit.{FitIs}
+use Rattle.decoder.specs.Held.{Held, HeldBy, HeldFitted, call-held, fit-held}
+
+-- with a queue and a scratch that are as long
+held-as-long : (T : Tables) (m : Lent) (finals : List Float) (eps : List ℕ) (places places' scratch scratch' : ℕ) (d : Decoder) → places' ≡ places → scratch' ≡ scratch → Held T m finals eps places scratch d → Held T m finals eps places' scratch' d
+held-as-long T m finals eps places places' scratch scratch' d p q H = subst (λ (n : ℕ). Held T m finals eps n scratch' d) (sym p) (subst (λ (n : ℕ). Held T m finals eps places n d) (sym q) H)
+
+-- after a fitting
+pub fit-done : (g : Graph) (T : Tables) (m m' : Lent) (scratch places places' : ℕ) (eps eps' : List ℕ) (c : Config) (f : Fitted) (d : Decoder) → FitIs g T m m' scratch places eps eps' c f → f ≡ FitDone d → places' ≡ places
+    → Held T m' (g .finals) eps' places' scratch d
+fit-done g T m m' scratch places places' eps eps' c f d F e p =
+    held-as-long T m' (g .finals) eps' places places' scratch scratch d p refl (subst (HeldFitted T m' (g .finals) eps' places scratch) e (fit-held g T m m' scratch places eps eps' c f F))
+
+-- after a frame
+pub frame-done : (T : Tables) (m m' : Lent) (finals : List Float) (eps : List ℕ) (places places' scratch scratch' : ℕ) (ls : List Float) (x d : Decoder) (r : Called) → Held T m finals eps places scratch x → FrameIs T m m' eps places ls x r → r ≡ Done d → places' ≡ places → scratch' ≡ scratch
+    → Held T m' finals eps places' scratch' d
+frame-done T m m' finals eps places places' scratch scratch' ls x d r H F e p q =
+    held-as-long T m' finals eps places places' scratch scratch' d p q (subst (HeldBy T m' finals eps places scratch) e (call-held T finals eps places scratch m m' (frameCall ls) x r F H))
+
+-- slices that are as long as others
+pub record AsLong (tk tk' : List ℕ) (sm sm' : List Float) (rs rs' : List ℕ) (ls ls' : List ℤ) (gs gs' : List Float) (qs qs' : List ℕ) (sc sc' : List Float) : Type 0 where
+  pub tokens : length tk' ≡ length tk
+  pub sums : length sm' ≡ length sm
+  pub records : length rs' ≡ length rs
+  pub labels : length ls' ≡ length ls
+  pub gaps : length gs' ≡ length gs
+  pub queue : length qs' ≡ length qs
+  pub scratch : length sc' ≡ length sc

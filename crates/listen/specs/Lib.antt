@@ -1,0 +1,2 @@
+-- What the program holds, and its laws.
+pub mod Held

@@ -1,0 +1,83 @@
+-- Places in the script, and how a run of calls goes on along it. Assumes nothing.
+use mathlib.Core.Path.{_≡_, subst, sym, ap}
+use Prim.Native.Nat.{ℕ, suc, _+_, _-_, _*_, _≤_, _<_}
+use native.Mathlib.Omega.{arith}
+use mathlib.Core.Bool.{Bool, true, false}
+use mathlib.Core.List.{List}
+use lib.ListN.{length, take}
+use lib.Seq.{length-take-le}
+use Rattle.script.specs.declared.Record.{Record}
+use Rattle.script.specs.declared.NextRecord.{NextRecord}
+use Rattle.traceback.specs.declared.BestPath.{BestPath}
+use Rattle.replay.specs.declared.Stop.{Stop}
+use Rattle.replay.specs.declared.Turn.{Turn}
+
+-- a record's payload lies within the script
+abbrev pub Inside : List ℕ → Record → Type 0
+Inside bs r = r .start + r .count ≤ length bs
+
+-- there are n words from a place on, of so many, and places for them
+abbrev pub CanFill : (length at n places : ℕ) → Bool → Type 0
+CanFill k at n places true = (n ≤ places) × (at + n ≤ k)
+CanFill k at n places false = Unit {0}
+
+-- a record that starts at a place lies within so many words
+abbrev pub RecordFrom : (n at : ℕ) → NextRecord → Type 0
+RecordFrom n at (NextRecord.Whole r) = (r .start ≡ at + 2) × (r .start + r .count ≤ n)
+RecordFrom n at NextRecord.Short = Unit {0}
+RecordFrom n at NextRecord.End = Unit {0}
+
+-- a run of calls ends at a record of the script, behind a place
+abbrev pub Behind : List ℕ → ℕ → Stop → Type 0
+Behind bs from Stop.End = Unit {0}
+Behind bs from (Stop.NewGraph r) = (from < r .start + r .count) × Inside bs r
+Behind bs from (Stop.NewFit r) = (from < r .start + r .count) × Inside bs r
+
+pub behind-from : (bs : List ℕ) (a b : ℕ) (s : Stop) → b ≤ a → Behind bs a s → Behind bs b s
+behind-from bs a b Stop.End l h = tt
+behind-from bs a b (Stop.NewGraph r) l h = (let z = h .0 in omega arith, h .1)
+behind-from bs a b (Stop.NewFit r) l h = (let z = h .0 in omega arith, h .1)
+
+-- how many words are left there, and 1 more
+abbrev pub ahead : List ℕ → Stop → ℕ
+ahead bs Stop.End = 0
+ahead bs (Stop.NewGraph r) = suc (length bs - (r .start + r .count))
+ahead bs (Stop.NewFit r) = suc (length bs - (r .start + r .count))
+
+pub fewer-ahead : (bs : List ℕ) (r : Record) (s : Stop) → Inside bs r → Behind bs (r .start + r .count) s → ahead bs s < suc (length bs - (r .start + r .count))
+fewer-ahead bs r Stop.End l h = omega arith
+fewer-ahead bs r (Stop.NewGraph x) l h = let a = h .0 in let b = h .1 in omega arith
+fewer-ahead bs r (Stop.NewFit x) l h = let a = h .0 in let b = h .1 in omega arith
+
+-- a run ends at this record, if not at the end
+abbrev pub StopsAt : Record → Stop → Type 0
+StopsAt r Stop.End = Unit {0}
+StopsAt r (Stop.NewGraph x) = x ≡ r
+StopsAt r (Stop.NewFit x) = x ≡ r
+
+abbrev pub TurnAt : Record → Turn → Type 0
+TurnAt r (Turn.Stopped s) = StopsAt r s
+TurnAt r Turn.Left = Unit {0}
+TurnAt r Turn.Other = Unit {0}
+
+-- a turn stops there or at the end, or not at all
+abbrev pub TurnsTo : Stop → Turn → Type 0
+TurnsTo s t = (r : Record) → StopsAt r s → TurnAt r t
+
+pub stops-behind : (bs : List ℕ) (from : ℕ) (r : Record) (s : Stop) → StopsAt r s → from < r .start + r .count → Inside bs r → Behind bs from s
+stops-behind bs from r Stop.End e l i = tt
+stops-behind bs from r (Stop.NewGraph x) e l i = subst (λ (z : Record). (from < z .start + z .count) × Inside bs z) (sym e) (l, i)
+stops-behind bs from r (Stop.NewFit x) e l i = subst (λ (z : Record). (from < z .start + z .count) × Inside bs z) (sym e) (l, i)
+
+-- a path's words, their frames and its segments have places, three for each segment
+abbrev pub PathWithin : (words frames segments : ℕ) → BestPath → Type 0
+PathWithin w f s (BestPath.Refused k) = Unit {0}
+PathWithin w f s BestPath.Nobody = Unit {0}
+PathWithin w f s (BestPath.Found size cost) = (size .words ≤ w) × (size .words ≤ f) × (size .segments * 3 ≤ s)
+
+pub can-fill-true : (k at n places : ℕ) (b : Bool) → CanFill k at n places b → b ≡ true → (n ≤ places) × (at + n ≤ k)
+can-fill-true k at n places b h e = subst (CanFill k at n places) e h
+
+-- a part of n is at most as long as a bound of n
+pub take-within : {A : Type 0} (n b : ℕ) (xs : List A) → n ≤ b → n ≤ length xs → length (take n xs) ≤ b
+take-within n b xs l m = let z = length-take-le n xs m in omega arith
