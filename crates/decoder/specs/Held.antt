@@ -22,7 +22,6 @@ use Rattle.copy_laws.specs.Walks.{Heard}
 use Rattle.cutoff.specs.declared.Config.{Config}
 use Rattle.cutoff.specs.Costs.{configOf}
 use Rattle.stores.specs.Rep.{Lent, lent}
-use Rattle.fst.specs.declared.Refusal.{Refusal}
 use Rattle.arcs.specs.State.{Tables}
 use Rattle.decoder.specs.declared.Decoder.{Decoder}
 use Rattle.decoder.specs.declared.Called.{Called}

@@ -4,3 +4,5 @@ pub mod Frame
 pub mod Reads
 pub mod Fit
 pub mod Held
+pub mod Behaves
+pub mod Says
