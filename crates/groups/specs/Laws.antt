@@ -17,10 +17,10 @@ use Rattle.records.specs.History.{History}
 use Rattle.records.specs.Layout.{store}
 use Rattle.records.specs.Stands.{Stands}
 use Rattle.histories.specs.Reading.{sameReading, KeyIs, SameIs}
-use Rattle.histories.specs.Laws.{same-sym, same-trans, same-key}
+use Rattle.histories.specs.Laws.{same-trans, same-key}
 use Rattle.sorting.specs.Moves.{Lent}
 use Rattle.sorting.specs.Sorting.{Sorted}
-use Rattle.groups.specs.Places.{earlier, Equivalence, firsts-by-place, PlacesSorted, places-sorted, Repeats, repeated, alone, repeats-is, kept-from}
+use Rattle.groups.specs.Places.{earlier, Transitive, firsts-by-place, PlacesSorted, places-sorted, Repeats, repeated, alone, repeats-is, kept-from}
 use Rattle.groups.specs.Firsts.{linkAt, dropped, StateAsks, StatesAsk, sameStates, samePlaces, KeysFilled, RepeatsAsk, RepeatsIs, DropsAsk, DroppedAt, Dropped, KeptAt, notKept, isKept, ClosedUp}
 
 -- ---- the keys
@@ -294,13 +294,13 @@ module _ {tk rs : List ℕ} {ls : List ℤ} {b used : ℕ} {to-join : Bool} {ord
     alike a zero l = refl
     alike a (suc k) l = ap₂ (λ (x : ℕ) (xs : List ℕ). x ∷ xs) (holds-so a (omega arith)) (alike (suc a) k (omega arith))
 
-    eqv : Equivalence (sameStates h tk b to-join)
-    eqv = record { symmetric = λ x y. same-sym to-join (h (linkAt tk b x)) (h (linkAt tk b y)); transitive = λ x y z. same-trans to-join (h (linkAt tk b x)) (h (linkAt tk b y)) (h (linkAt tk b z)) }
+    trans : Transitive (sameStates h tk b to-join)
+    trans x y z = same-trans to-join (h (linkAt tk b x)) (h (linkAt tk b y)) (h (linkAt tk b z))
 
     pub firsts-are : take m order'' ≡ firsts (sameStates h tk b to-join) [] (take n order)
     firsts-are =
         C .is
         ∙ ap (keepIf stays) (take-range order' n long ∙ alike 0 n (omega arith))
         ∙ kept-from dropped (earlier same) (λ p. getD order p 0) (λ p l. A .each p l .named) 0 n (omega arith)
-        ∙ sym (firsts-by-place (sameStates h tk b to-join) eqv (λ p. getD order p 0) n)
+        ∙ sym (firsts-by-place (sameStates h tk b to-join) trans (λ p. getD order p 0) n)
         ∙ ap (firsts (sameStates h tk b to-join) []) (sym (take-range order n (A .long)))

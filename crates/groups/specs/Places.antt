@@ -45,9 +45,8 @@ range-to a (suc n) x l u = case (eq-or-not x a) (λ e. here e) (λ d. there (ran
 abbrev pub earlier : (ℕ → ℕ → Bool) → ℕ → Bool
 earlier same p = any (same p) (range 0 p)
 
-pub record Equivalence {A : Type 0} (same : A → A → Bool) : Type 0 where
-  pub symmetric : (x y : A) → same x y ≡ true → same y x ≡ true
-  pub transitive : (x y z : A) → same x y ≡ true → same y z ≡ true → same x z ≡ true
+abbrev pub Transitive : {A : Type 0} → (A → A → Bool) → Type 0
+Transitive {A} same = (x y z : A) → same x y ≡ true → same y z ≡ true → same x z ≡ true
 
 any-more : {A : Type 0} (p : A → Bool) (xs : List A) (y : A) → any p (xs ++ y ∷ []) ≡ (any p xs || p y)
 any-more p [] y = or-none (p y)
@@ -65,7 +64,7 @@ range-last : (a n : ℕ) → range a (suc n) ≡ range a n ++ (a + n) ∷ []
 range-last a zero = ap (λ (x : ℕ). x ∷ []) (omega arith)
 range-last a (suc n) = ap (λ (xs : List ℕ). a ∷ xs) (range-last (suc a) n ∙ ap (λ (x : ℕ). range (suc a) n ++ x ∷ []) (omega arith))
 
-module _ {A : Type 0} (same : A → A → Bool) (eqv : Equivalence same) (f : ℕ → A) where
+module _ {A : Type 0} (same : A → A → Bool) (trans : Transitive same) (f : ℕ → A) where
   abbrev at : ℕ → ℕ → Bool
   at p q = same (f p) (f q)
 
@@ -95,7 +94,7 @@ module _ {A : Type 0} (same : A → A → Bool) (eqv : Equivalence same) (f : �
   seen-again k seen s e x = s x ∙ or-true (any (λ q. same x (f q)) (range 0 k)) (same x (f k)) so ∙ sym (one-more x k)
     where
       so : same x (f k) ≡ true → any (λ q. same x (f q)) (range 0 k) ≡ true
-      so t = let (j, m, w) = any-some (at k) (range 0 k) e in any-yes (λ q. same x (f q)) (range 0 k) j m (eqv .transitive x (f k) (f j) t w)
+      so t = let (j, m, w) = any-some (at k) (range 0 k) e in any-yes (λ q. same x (f q)) (range 0 k) j m (trans x (f k) (f j) t w)
 
   seen-new : (k : ℕ) (seen : List A) → Seen k seen → Seen (suc k) (f k ∷ seen)
   seen-new k seen s x = ap (λ (b : Bool). same x (f k) || b) (s x) ∙ or-swap (same x (f k)) (any (λ q. same x (f q)) (range 0 k)) ∙ sym (one-more x k)
