@@ -332,11 +332,11 @@ pub fn spoilt(seed: u64) -> Vec<Rec> {
         let any_arc = |r: &mut Rng| r.below(m.max(1)) as usize;
         match r.below(12) {
             0 => g.start = r.pick(&[n as u32, n as u32 - 1, u32::MAX, u32::MAX - 1]),
-            1 if m > 0 => { let a = any_arc(&mut r); g.targets[a] = r.pick(&[n as u32, n as u32 - 1, u32::MAX]) }
+            1 if m > 0 => { let a = any_arc(&mut r); let t = r.pick(&[n as u32, n as u32 - 1, u32::MAX]); if let Some(x) = g.targets.get_mut(a) { *x = t } }
             2 if m > 0 => { let a = any_arc(&mut r); g.ilabels[a] = r.pick(&[-1, i32::MIN, g.pdfs.len() as i32, g.pdfs.len() as i32 - 1, i32::MAX]) }
             3 => { let t = r.below(g.pdfs.len() as u64) as usize; g.pdfs[t] = r.pick(&[-1, g.npdf as i32, g.npdf as i32 - 1]) }
             4 => { let t = r.below(g.phones.len() as u64) as usize; g.phones[t] = r.pick(&[0, -1, 1]) }
-            5 | 6 if m > 0 => { let a = any_arc(&mut r); g.weights[a] = f32::from_bits(r.pick(&odd)) }
+            5 | 6 if m > 0 => { let a = any_arc(&mut r); let w = f32::from_bits(r.pick(&odd)); if let Some(x) = g.weights.get_mut(a) { *x = w } }
             7 => { let s = r.below(n) as usize; g.finals[s] = f32::from_bits(r.pick(&odd)) }
             8 => { let o = r.below(g.offsets.len() as u64) as usize; g.offsets[o] = r.below(m + 2) as u32 }
             9 => match r.below(6) {

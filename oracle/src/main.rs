@@ -8,6 +8,7 @@ mod driver;
 mod mtable;
 mod gen;
 mod sample;
+mod compare;
 mod fuzz;
 mod probe;
 mod bench;
@@ -48,6 +49,7 @@ oracle genspoilt SEED      a damaged graph or setting (1 to 6)
 oracle gensilence SEED     silence calls
 oracle gensearch SEED      searches of a word
 oracle sample DIR N CASE.. the committed sample: N scripts of each generator, and these cases
+oracle compare PROGRAM FROM TO [KIND..]   seeds FROM to TO of four generators against a program; without these kinds
 oracle probe               experiments on limits and worst cases
 oracle fuzz SEED COUNT [DIR]   ascending against unmodified, and the refusing copy's checks
 oracle bench [STATES]"
@@ -131,6 +133,10 @@ fn real() {
         Some("genhuge") => print!("{}", script::to_text(&gen::huge(num(1).unwrap_or(1)).script(), flag("--floats"))),
         Some("gensearch") => print!("{}", script::to_text(&gen::search(num(1).unwrap_or(1)), flag("--floats"))),
         Some("sample") if args.len() >= 3 => sample::run(&args[1], num(2).unwrap_or(100), &args[3..]),
+        Some("compare") if args.len() >= 4 => {
+            let without: Vec<u32> = args[4..].iter().filter_map(|a| a.parse().ok()).collect();
+            compare::run(&args[1], num(2).unwrap_or(1), num(3).unwrap_or(1), &without)
+        }
         Some("fuzz") => fuzz::run(num(1).unwrap_or(1), num(2).unwrap_or(1000), args.get(3).map_or("cases", |s| s)),
         Some("probe") => probe::run(),
         Some("bench") => bench::run(num(1)),

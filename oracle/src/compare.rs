@@ -1,0 +1,98 @@
+//! The full comparison: random scripts of each generator, the refusing copy's answers against those of a program that reads the script and
+//! writes its answers in the binary form.
+use crate::driver::{Driver, Mode};
+use crate::gen;
+use crate::script::{from_binary, name, to_binary, Rec};
+use std::collections::BTreeMap;
+use std::io::Write;
+use std::process::{Command, Stdio};
+
+/// A faulty script's answer, which a program gives for a call that it does not have.
+const FAULT: u32 = u32::MAX;
+/// Scripts are joined up to this many words, so that one run of the program serves many.
+const WORDS: usize = 400_000;
+
+fn answers_of(program: &str, script: &[Rec]) -> Vec<Rec> {
+    let mut child = Command::new(program)
+        .stdin(Stdio::piped())
+        .stdout(Stdio::piped())
+        .spawn()
+        .expect("the program runs");
+    let bytes = to_binary(script);
+    let mut input = child.stdin.take().unwrap();
+    let writer = std::thread::spawn(move || input.write_all(&bytes));
+    let out = child.wait_with_output().expect("the program ends");
+    let _ = writer.join();
+    from_binary(&out.stdout).expect("answers")
+}
+
+#[derive(Default)]
+struct Tally {
+    scripts: u64,
+    calls: BTreeMap<(u32, u32), u64>,
+    unanswered: BTreeMap<u32, u64>,
+    differences: u64,
+}
+
+impl Tally {
+    /// The answers of one run; a call that the program answers as faulty and the oracle does not is counted apart.
+    fn compare(&mut self, program: &str, script: &[Rec], without: &[u32]) {
+        let want = Driver::new(Mode::Refusing).run(script);
+        let got = answers_of(program, script);
+        for (i, a) in want.iter().enumerate() {
+            let kind = script[i].kind;
+            if without.contains(&kind) {
+                *self.unanswered.entry(kind).or_default() += 1;
+                continue;
+            }
+            *self.calls.entry((kind, a.refusal())).or_default() += 1;
+            if got.get(i) != Some(&a.rec()) {
+                self.differences += 1;
+                println!("call {i}, {}: {:?}\n  {:?}", name(kind), a.rec(), got.get(i));
+                return;
+            }
+        }
+    }
+}
+
+/// Seeds `from` to `to` of the four generators. `without`: kinds that the program does not have.
+pub fn run(program: &str, from: u64, to: u64, without: &[u32]) {
+    let mut tally = Tally::default();
+    let mut joined: Vec<Rec> = Vec::new();
+    let mut words = 0;
+    for seed in from..=to {
+        for script in [
+            gen::case(seed).script(),
+            gen::tight(seed).script(),
+            gen::huge(seed).script(),
+            gen::spoilt(seed),
+        ] {
+            let size: usize = script.iter().map(|r| r.words.len() + 2).sum();
+            if words + size > WORDS {
+                tally.compare(program, &joined, without);
+                joined.clear();
+                words = 0;
+            }
+            words += size;
+            joined.extend(script);
+            tally.scripts += 1;
+        }
+    }
+    tally.compare(program, &joined, without);
+    let calls: u64 = tally.calls.values().sum();
+    println!("scripts {} calls compared {calls} differences {}", tally.scripts, tally.differences);
+    for ((kind, refusal), n) in &tally.calls {
+        let how = match *refusal {
+            0 => "accepted".into(),
+            FAULT => "faulty".into(),
+            r => format!("refused by {r}"),
+        };
+        println!("  {} {how}: {n}", name(*kind));
+    }
+    for (kind, n) in &tally.unanswered {
+        println!("  {} left out: {n}", name(*kind));
+    }
+    if tally.differences > 0 {
+        std::process::exit(1);
+    }
+}
