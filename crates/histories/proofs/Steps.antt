@@ -16,13 +16,14 @@ use mir.ValLaws.{toZ-pos}
 use borrow.Author.Tests.{eq-eqb, ne-eqb, le-ltb}
 use Rattle.lists.specs.Tests.{never}
 use Rattle.model.specs.Basics.{nonzero, unsigned}
+use Rattle.model.specs.Ints.{nonzero-yes, nonzero-no}
 use Rattle.model.specs.Hash.{hash-base, hashNewestFirst, newest-first}
 use Rattle.records.specs.History.{History, tag}
 use Rattle.records.specs.Layout.{Rec, Store, store, recAt, isLinkRec, prevAt, wordAt}
 use Rattle.records.specs.Stands.{Stands, topBy}
 use Rattle.joins.specs.Walk.{wordsTo, NextWord, SameWords}
 use Rattle.histories.specs.declared.Hashed.{Hashed}
-use Rattle.histories.specs.Reading.{joinTag, endTag, sameReading, EndIs, isJoinAt, hashed, older, HashIs, keyOf, SameIs}
+use Rattle.histories.specs.Reading.{joinTag, endTag, sameReading, EndIs, isJoinAt, hashed, older, newer, HashIs, keyOf, SameIs}
 use Rattle.histories.specs.Laws.{tag-one, end-words}
 
 -- ---- down to the newest join
@@ -118,6 +119,17 @@ pub older-is : (x : Hashed) (w : ℤ) {u m a s : ℕ} → u ≡ unsigned w → m
 unfolding older
 older-is x w a b c d = rw (d, c, b, a)
 
+-- the same of a newer one
+module _ (x : Hashed) (w : ℤ) where
+  pub newer-none : SFits w32 w → ofZ w32 w ≡ 0 → x ≡ newer x w
+  unfolding newer
+  newer-none f e = rw (nonzero-no w f e) refl
+
+  pub newer-is : {u m a s : ℕ} → (ofZ w32 w ≡ 0 → ⊥) → u ≡ unsigned w → m ≡ (x .hash * hash-base) % 2 ^ 64 → a ≡ (m + u) % 2 ^ 64 → s ≡ (x .shift * hash-base) % 2 ^ 64
+      → _≡_ {A = Hashed} (record { hash = a; shift = s; len = x .len + 1 }) (newer x w)
+  unfolding newer
+  newer-is n a b c d = rw (nonzero-yes w n, d, c, b, a) refl
+
 -- more words, newest first
 unfoldable pub olderAll : Hashed → List ℤ → Hashed
 olderAll x [] = x
@@ -144,11 +156,12 @@ pub record Hashing (rs : List ℕ) (ls : List ℤ) (n link m : ℕ) (x : Hashed)
   pub from : ℕ
   pub next : NextWord rs ls n from m r
   pub low : x .len + r ≤ link
+  pub high : m ≤ link → x .len + m ≤ link
   pub is : (gs : List Float) (h : ℕ → History) → Stands (store rs ls gs) n h → olderAll x (wordsTo h m from) ≡ hashed (wordsTo h m link)
 
 module _ {rs : List ℕ} {ls : List ℤ} {n link m : ℕ} where
   pub hashing-none : {r : ℕ} → NextWord rs ls n link m r → Hashing rs ls n link m start r
-  hashing-none {r} N = record { from = link; next = N; low = omega (arith, N .low); is = λ gs h ok. all-hashed (wordsTo h m link) }
+  hashing-none {r} N = record { from = link; next = N; low = omega (arith, N .low); high = λ a. omega arith; is = λ gs h ok. all-hashed (wordsTo h m link) }
 
   pub hashing-more : {x y : Hashed} {r p q : ℕ} {w : ℤ} → Hashing rs ls n link m x r → m < r → w ≡ wordAt ls (r - 1) → y ≡ older x w → p ≡ prevAt rs (r - 1) → p < r → NextWord rs ls n p m q
       → Hashing rs ls n link m y q
@@ -158,12 +171,13 @@ module _ {rs : List ℕ} {ls : List ℤ} {n link m : ℕ} where
         from = p;
         next = N;
         low = rw b (omega (arith, H .low, N .low));
+        high = λ u. rw b (omega (arith, H .low));
         is = λ gs h ok. rw (b, a, c) (sym (ap (olderAll x) (H .next .some l gs h ok)) ∙ H .is gs h ok);
       }
 
   pub hashing-end : {x : Hashed} {r : ℕ} → Hashing rs ls n link m x r → r ≤ m → HashIs rs ls n link m x
   unfolding olderAll
-  hashing-end {x} H l = record { is = λ gs h ok. sym (ap (olderAll x) (H .next .none l gs h ok)) ∙ H .is gs h ok }
+  hashing-end {x} H l = record { low = H .high; is = λ gs h ok. sym (ap (olderAll x) (H .next .none l gs h ok)) ∙ H .is gs h ok }
 
 -- the key, as the code makes it
 pub key-of : {x : Hashed} {m k : ℕ} (e : ℕ) (ws : List ℤ) → x ≡ hashed ws → m ≡ (e * x .shift) % 2 ^ 64 → k ≡ (m + x .hash) % 2 ^ 64 → k ≡ keyOf e ws

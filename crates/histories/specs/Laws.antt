@@ -1,17 +1,21 @@
 -- Laws of readings: one key for the same reading, and what a path's history reads. Assumes nothing.
 use mathlib.Core.Path.{_≡_, refl, sym, ap, ap₂, _∙_}
-use Prim.Native.Nat.{ℕ, zero, suc, _≤_, _<_}
+use Prim.Native.Nat.{ℕ, zero, suc, _*_, _^_, _≤_, _<_}
 use native.Mathlib.Omega.{arith}
 use mathlib.Core.Bool.{Bool, true, false, not, _&&_}
+use native.Mathlib.Nat.{mod-add-mod}
+use native.Mathlib.Numerals.{add-one}
 use mathlib.Core.List.{List}
 use lib.IntN.{ℤ}
 use lib.Dec.{eqb}
+use lib.ListN.{length}
 use lib.Ieee.{Float}
 use borrow.Author.Tests.{eqb-true, eq-eqb, ne-eqb, lt-ltb, le-ltb}
 use Rattle.lists.specs.Tests.{case, either, lt-or-le, eq-or-not, and-both, or-neither}
-use Rattle.model.specs.Basics.{nonzero}
+use Rattle.model.specs.Basics.{nonzero, unsigned}
 use Rattle.model.specs.Ints.{sameWords-true, sameWords-refl}
 use Rattle.model.specs.Path.{Path, emptyPath, arcOn, branchOn, isLink, word, withWord, wordsBack, sameWords}
+use Rattle.model.specs.Hash.{hash-base, hashWord, hashWords, shiftPast}
 use Rattle.model.specs.Readings.{joinNumber, wordsToJoin}
 use Rattle.records.specs.History.{History, noHistory, linkOn, joinOn, tag, historyOf, plain, history-link, history-quiet}
 use Rattle.records.specs.Layout.{Store, store, recAt, isLinkRec}
@@ -20,7 +24,7 @@ use Rattle.joins.specs.Worth.{wordsOf, aboveOf}
 use Rattle.joins.specs.Walk.{under, wordsTo}
 use Rattle.joins.specs.Fresh.{tag-each}
 use Rattle.joins.specs.Paths.{own-arc, plain-rest, words-are}
-use Rattle.histories.specs.Reading.{joinTag, endTag, readWords, sameReading, EndIs, keyOf, KeyIs}
+use Rattle.histories.specs.Reading.{joinTag, endTag, readWords, sameReading, EndIs, hashed, newer, keyOf, KeyIs}
 
 -- ---- the same reading
 
@@ -109,7 +113,7 @@ join-tag (branchOn m k p) d = go (m .number) d
     go zero l = absurd (omega arith)
     go (suc n) l = refl
 
-join-low : (f : ℕ) (x : History) → Falls f x → joinTag x ≤ f
+pub join-low : (f : ℕ) (x : History) → Falls f x → joinTag x ≤ f
 unfolding joinTag
 join-low f noHistory d = omega arith
 join-low f (linkOn n fr w st t) d = let z = d .0 in omega (arith, join-low n t (d .1))
@@ -172,3 +176,11 @@ module _ {s : Store} {n : ℕ} {h : ℕ → History} (ok : Stands s n h) where
 
   pub stands-falls : (r : ℕ) → r ≤ n → Falls (tag (h r)) (h r)
   stands-falls r l = falls-upto r r (tag (h r)) (omega arith) l (omega arith)
+
+-- ---- one more word
+
+-- the hash of the words with it
+pub newer-hashed : (w : ℤ) (ws : List ℤ) → newer (hashed ws) w ≡ hashed (withWord w ws)
+unfolding newer hashWords hashWord shiftPast
+newer-hashed w ws =
+    case (either (nonzero w)) (λ e. rw (e, mod-add-mod (hashWords ws * hash-base) (2 ^ 64) (unsigned w), add-one (length ws)) refl) (λ e. rw e refl)

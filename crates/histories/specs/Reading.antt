@@ -52,8 +52,13 @@ hashed ws = record { hash = hashWords ws; shift = shiftPast ws; len = length ws 
 unfoldable pub older : Hashed → ℤ → Hashed
 older x w = record { hash = (x .hash + unsigned w * x .shift % 2 ^ 64) % 2 ^ 64; shift = x .shift * hash-base % 2 ^ 64; len = x .len + 1 }
 
--- of the words above record m
+-- with one more, newer than these; 0 is none
+unfoldable pub newer : Hashed → ℤ → Hashed
+newer x w = cond (nonzero w) (record { hash = (x .hash * hash-base % 2 ^ 64 + unsigned w) % 2 ^ 64; shift = x .shift * hash-base % 2 ^ 64; len = x .len + 1 }) x
+
+-- of the words above record m, at most one for each record
 pub record HashIs (rs : List ℕ) (ls : List ℤ) (n r m : ℕ) (x : Hashed) : Type 0 where
+  pub low : m ≤ r → x .len + m ≤ r
   pub is : (gs : List Float) (h : ℕ → History) → Stands (store rs ls gs) n h → x ≡ hashed (wordsTo h m r)
 
 -- the key of a reading that ends at record e

@@ -5,7 +5,7 @@ ghost use mathlib.Core.Bool.{true};
 ghost use lib.ListN.{length};
 ghost use Rattle.model.specs.Basics.{unsigned};
 ghost use Rattle.joins.specs.Walk.{Chains};
-ghost use Rattle.histories.specs.Reading.{isJoinAt, older, EndIs, HashIs, KeyIs, SameIs};
+ghost use Rattle.histories.specs.Reading.{isJoinAt, older, newer, EndIs, HashIs, KeyIs, SameIs};
 use wrapping::wrapping_mul;
 
 const HASH_BASE: u64 = 0x9e37_79b9_7f4a_7c15;
@@ -91,6 +91,21 @@ pub fn hash_above(records: &[u32], labels: &[i32], used: u32, link: u32, end: u3
         r = joins::next_word(records, labels, used, records::prev_of(records, r), end);
     }
     h
+}
+
+// The words with one more, newer than all of them; 0 is none.
+pub fn with_word(h: Hashed, word: i32) -> Hashed
+    requires { ⌜ h .len < 2 ^ 32 - 1 ⌝ }
+    ensures { λ x. ⌜ x ≡ newer h word ⌝ }
+{
+    if word == 0 {
+        return h;
+    }
+    Hashed {
+        hash: std::num::wrapping_add_u64(wrapping_mul(h.hash, HASH_BASE), unsigned_of(word) as u64),
+        shift: wrapping_mul(h.shift, HASH_BASE),
+        len: h.len + 1,
+    }
 }
 
 // Histories that read the same have one key.
