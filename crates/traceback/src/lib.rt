@@ -215,13 +215,13 @@ pub fn best_token(
 // ---- traces
 
 // What a trace reads of a record: the record to read after it, its frame, word and phone (0 for none); and where a kept history is left, the phone that goes on from the frame `at` (0 for none).
-struct Step {
-    next: u32,
-    frame: u32,
-    word: i32,
-    phone: u32,
-    back: u32,
-    at: u32,
+pub struct Step {
+    pub next: u32,
+    pub frame: u32,
+    pub word: i32,
+    pub phone: u32,
+    pub back: u32,
+    pub at: u32,
 }
 
 // Whether a record is one of the joins whose kept history is taken.
@@ -308,7 +308,7 @@ fn kept_step(records: &[u32], labels: &[i32], n: u32, r: u32) -> Step
     }
 }
 
-fn step_at(records: &[u32], labels: &[i32], route: &[u32], n: u32, r: u32) -> Step
+pub fn step_at(records: &[u32], labels: &[i32], route: &[u32], n: u32, r: u32) -> Step
     requires { ⌜ (0 < r) × (r * 8 ≤ length (now records)) × (r * 2 ≤ length (now labels)) ⌝ }
     ensures { λ s. ⌜ s ≡ stepOf (now (records .entry)) (now (labels .entry)) (now (route .entry)) n (r - 1) ⌝ }
 {

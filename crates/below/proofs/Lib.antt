@@ -1,0 +1,4 @@
+-- Laws of this crate's proofs.
+pub mod Wayside
+pub mod Marking
+pub mod Filled

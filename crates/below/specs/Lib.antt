@@ -1,0 +1,20 @@
+-- What the contracts of the lists below joins cite, and its laws.
+pub mod Lists
+pub mod Stored
+pub mod Ways
+pub mod Filling
+pub mod Maps
+pub mod Each
+pub mod Paths
+pub mod Down
+pub mod Rising
+pub mod Lengths
+pub mod Decoding
+pub mod Steps
+pub mod Sums
+pub mod Visited
+pub mod Totals
+pub mod Progress
+pub mod Short
+pub mod Marks
+pub mod Putting
