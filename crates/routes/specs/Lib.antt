@@ -1,0 +1,8 @@
+-- Words along routes, and routes of entries.
+pub mod Back
+pub mod Words
+pub mod Before
+pub mod Written
+pub mod Entries
+pub mod Joins
+pub mod Told
