@@ -156,29 +156,30 @@ module _ (g : Graph) (good : GoodGraph g) (floats : Floats32 g) (fs : List Heard
   final-tame : (s : ℕ) → s < states g → isFinal g s ≡ true → tame (finalWeight g s) ≡ true
   final-tame s i e = case (good .final s i) (λ t. t) (λ q. never (sym q ∙ e))
 
-  pub ranked-sure : (f : Bool) (r : Ranked) → r ∈ ranked g st f → Sure 102 (r .rank) × Sure 101 (r .cost)
+  -- of every active token that counts, whether finals count or not
+  pub sure-at : (b : Bool) (r : Ranked) → RankedAt g b (st .table) r → Sure 102 (r .rank) × Sure 101 (r .cost)
   unfolding rankOne
-  ranked-sure f r m = go (useFinals g st f) (ranked-at g st f r m)
-    where
-      go : (b : Bool) → RankedAt g b (st .table) r → Sure 102 (r .rank) × Sure 101 (r .cost)
-      go false a =
-          let z = plain-rank g fs st active r a in
-          let d = active .sound (a .state) (r .token) (a .at) .sums in
-          let small-cost = tame-small (r .token .cost) (holds (d .cost-tame)) in (
-            subst (Sure 102) (sym (z .0)) (record { size = atMost-mono (2 ^ 100) (2 ^ 102) (r .token .cost) (lit≤ tt) small-cost; signed = d .cost }),
-            subst (Sure 101) (sym (z .1)) (record { size = atMost-mono (2 ^ 100) (2 ^ 101) (r .token .cost) (lit≤ tt) small-cost; signed = d .cost }),
-          )
-      go true a =
-          let t = r .token in
-          let s = a .state in
-          let fw = finalWeight g s in
-          let i : s < states g = subst (λ (n : ℕ). s < n) (active .long) (at-length (st .table) s t (a .at)) in
-          let tf = holds (final-tame s i (ranked-final g true (st .table) r a refl)) in
-          let d = active .sound s t (a .at) .sums in
-          let c = tame-add (t .cost) fw (holds (d .cost-tame)) tf in
-          let e = share-shrinks 101 (t .graph ⊕ fw) (lit< tt) (tame-add (t .graph) fw (holds (active .light s t (a .at))) tf) in
-          let cs = signed-add (t .cost) fw (d .cost) (final-fits s i) in (
-            subst (Sure 102) (sym (ap (λ (x : Ranked). x .rank) (a .is)))
-                (record { size = small-sub binary32 101 (t .cost ⊕ fw) (share ⊗ (t .graph ⊕ fw)) (lit< tt) c e; signed = signed-sub (t .cost ⊕ fw) (share ⊗ (t .graph ⊕ fw)) cs (mul-fits binary32 share (t .graph ⊕ fw)) }),
-            subst (Sure 101) (sym (ap (λ (x : Ranked). x .cost) (a .is))) (record { size = c; signed = cs }),
-          )
+  sure-at false r a =
+      let z = plain-rank g fs st active r a in
+      let d = active .sound (a .state) (r .token) (a .at) .sums in
+      let small-cost = tame-small (r .token .cost) (holds (d .cost-tame)) in (
+        subst (Sure 102) (sym (z .0)) (record { size = atMost-mono (2 ^ 100) (2 ^ 102) (r .token .cost) (lit≤ tt) small-cost; signed = d .cost }),
+        subst (Sure 101) (sym (z .1)) (record { size = atMost-mono (2 ^ 100) (2 ^ 101) (r .token .cost) (lit≤ tt) small-cost; signed = d .cost }),
+      )
+  sure-at true r a =
+      let t = r .token in
+      let s = a .state in
+      let fw = finalWeight g s in
+      let i : s < states g = subst (λ (n : ℕ). s < n) (active .long) (at-length (st .table) s t (a .at)) in
+      let tf = holds (final-tame s i (ranked-final g true (st .table) r a refl)) in
+      let d = active .sound s t (a .at) .sums in
+      let c = tame-add (t .cost) fw (holds (d .cost-tame)) tf in
+      let e = share-shrinks 101 (t .graph ⊕ fw) (lit< tt) (tame-add (t .graph) fw (holds (active .light s t (a .at))) tf) in
+      let cs = signed-add (t .cost) fw (d .cost) (final-fits s i) in (
+        subst (Sure 102) (sym (ap (λ (x : Ranked). x .rank) (a .is)))
+            (record { size = small-sub binary32 101 (t .cost ⊕ fw) (share ⊗ (t .graph ⊕ fw)) (lit< tt) c e; signed = signed-sub (t .cost ⊕ fw) (share ⊗ (t .graph ⊕ fw)) cs (mul-fits binary32 share (t .graph ⊕ fw)) }),
+        subst (Sure 101) (sym (ap (λ (x : Ranked). x .cost) (a .is))) (record { size = c; signed = cs }),
+      )
+
+  pub ranked-sure : (f : Bool) (r : Ranked) → r ∈ ranked g st f → Sure 102 (r .rank) × Sure 101 (r .cost)
+  ranked-sure f r m = sure-at (useFinals g st f) r (ranked-at g st f r m)

@@ -9,7 +9,7 @@ use Rattle.model.specs.Graph.{Graph}
 use Rattle.model.specs.Path.{Limits, fullAt}
 use Rattle.model.specs.Cutoff.{Config as Settings}
 use Rattle.model.specs.Passes.{State, fitted}
-use Rattle.model.specs.Calls.{Call, startCall, frameCall, keepCall, readCall, bestPathRead, relativeCostRead, numActiveRead, framesDecodedRead, Answer, doneAnswer, refusalAnswer, countAnswer, costAnswer, Said, call, toldCall, answersFrom, answers}
+use Rattle.model.specs.Calls.{Call, startCall, frameCall, keepCall, readCall, bestPathRead, alternativesRead, relativeCostRead, numActiveRead, framesDecodedRead, Answer, doneAnswer, refusalAnswer, countAnswer, costAnswer, Said, call, toldCall, answersFrom, answers}
 use Rattle.copy_laws.specs.Walks.{Heard}
 use Rattle.copy_laws.specs.Told.{toldOf, call-told}
 use Rattle.cutoff.specs.declared.Config.{Config}
@@ -18,6 +18,9 @@ use Rattle.stores.specs.Rep.{Lent}
 use Rattle.arcs.specs.State.{Tables}
 use Rattle.traceback.specs.declared.BestPath.{BestPath}
 use Rattle.traceback.specs.Right.{Parts, placesOf, bestAs}
+use Rattle.readings.specs.declared.Listed.{Listed}
+use Rattle.readings.specs.Paths.{Outputs, placesIn}
+use Rattle.readings.specs.Right.{listedAs}
 use Rattle.decoder.specs.declared.Decoder.{Decoder}
 use Rattle.decoder.specs.declared.Called.{Called}
 use Rattle.decoder.specs.declared.Called.the-variants.{Done, Refused}
@@ -25,7 +28,7 @@ use Rattle.decoder.specs.declared.Fitted.{Fitted}
 use Rattle.decoder.specs.declared.Fitted.the-variants.{Unfit, Done as FitDone, Refused as FitRefused}
 use Rattle.decoder.specs.Represents.{Represents, refusalOf, CalledBy, calledDone, calledRefused}
 use Rattle.decoder.specs.Frame.{StartIs, FrameIs}
-use Rattle.decoder.specs.Reads.{asked, KeepIs, LeftOf, FramesIs, ActiveIs, RelativeCostIs, BestPathIs}
+use Rattle.decoder.specs.Reads.{asked, KeepIs, LeftOf, FramesIs, ActiveIs, RelativeCostIs, BestPathIs, AlternativesIs}
 use Rattle.decoder.specs.Fit.{capacityOf, fittedBy, FitIs, fitCalled}
 
 -- ---- what a call says, and the decoder that it gives back
@@ -47,6 +50,8 @@ pub data Behaves (T : Tables) (finals : List Float) (eps : List ℕ) (places : �
   keepBehaves : {m : Lent} {d : Decoder} (r : Called) (keeps : Bool) (x : Float) → KeepIs d keeps x r → Behaves T finals eps places (keepCall (asked keeps x)) m d (answerOf r) m (valueOf r)
   bestBehaves : {m : Lent} {d : Decoder} (r : BestPath) (use-final : Bool) (p p' : Parts) → BestPathIs (m .tokens) (m .sums) (m .records) (m .labels) finals d use-final p p' r
       → Behaves T finals eps places (readCall (bestPathRead use-final (placesOf p))) m d (bestAs r p') m d
+  alternativesBehaves : {m : Lent} {d : Decoder} (r : Listed) (use-final : Bool) (max : ℕ) (o o' : Outputs) → AlternativesIs (m .tokens) (m .sums) (m .records) (m .labels) finals d use-final max o o' r
+      → Behaves T finals eps places (readCall (alternativesRead use-final max (placesIn o))) m d (listedAs r o') m d
   relativeBehaves : {m : Lent} {d : Decoder} {x : Float} → RelativeCostIs (m .tokens) (m .sums) finals d x → Behaves T finals eps places (readCall relativeCostRead) m d (costAnswer x) m d
   activeBehaves : {m : Lent} {d : Decoder} {n : ℕ} → ActiveIs (m .tokens) d n → Behaves T finals eps places (readCall numActiveRead) m d (countAnswer n) m d
   framesBehaves : {m : Lent} {d : Decoder} {n : ℕ} → FramesIs d n → Behaves T finals eps places (readCall framesDecodedRead) m d (countAnswer n) m d
@@ -91,6 +96,7 @@ module _ (g : Graph) (c : Settings) (l : Limits) (T : Tables) (eps : List ℕ) (
     behaves-follows k a m' d' (frameBehaves r {ls = ls} F) = called-follows (frameCall ls) st m' r (F g c l fs st R)
     behaves-follows k a m' d' (keepBehaves r keeps x K) = called-follows (keepCall (asked keeps x)) st m r (K g c l T m eps places fs st R)
     behaves-follows k a m' d' (bestBehaves r use-final p p' B) = read-follows (sym (B (record { left = left; finals-are = refl }) .0)) refl
+    behaves-follows k a m' d' (alternativesBehaves r use-final max o o' B) = read-follows (sym (B (record { left = left; finals-are = refl }) .0)) refl
     behaves-follows k a m' d' (relativeBehaves B) = read-follows (B (m .records) (m .labels) (record { left = left; finals-are = refl })) refl
     behaves-follows k a m' d' (activeBehaves B) = read-follows (B (m .sums) (m .records) (m .labels) left) refl
     behaves-follows k a m' d' (framesBehaves B) = read-follows (B g c l T m eps places fs st R) refl
@@ -115,7 +121,7 @@ FittedAs (Unfit f) a d = ⊥
 FittedAs (FitDone x) a d = (a ≡ doneAnswer) × (d ≡ x)
 FittedAs (FitRefused x f) a d = (a ≡ refusalAnswer (refusalOf f)) × (d ≡ x)
 
-pub decoder-alike : (g : Graph) (T : Tables) (m m' : Lent) (scratch places : ℕ) (eps eps' : List ℕ) (c : Config) (f : Fitted) (a : Answer) (d : Decoder) (ks : List Call) (ans : List Answer)
+pub decoder-alike : (g : Graph) (T : Tables) (m m' : Lent) (scratch : List ℕ) (places : ℕ) (eps eps' : List ℕ) (c : Config) (f : Fitted) (a : Answer) (d : Decoder) (ks : List Call) (ans : List Answer)
     → FitIs g T m m' scratch places eps eps' c f → FittedAs f a d → Runs T (g .finals) eps' places m' d ks ans → answers g (configOf c) (told (startCall ∷ ks) (a ∷ ans)) ≡ a ∷ ans
 unfolding answers answersFrom
 decoder-alike g T m m' scratch places eps eps' c f a d ks ans (fitCalled {r} x y k) A more =

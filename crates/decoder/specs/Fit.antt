@@ -1,17 +1,17 @@
 -- The fitter. Assumes nothing.
 use mathlib.Core.Path.{_≡_, refl, sym, ap, ap₂, _∙_, subst}
-use Prim.Native.Nat.{ℕ, _+_, _-_, _/_, _≤_}
+use Prim.Native.Nat.{ℕ, _+_, _-_, _/_, _≤_, _<_}
 use native.Mathlib.Omega.{arith}
-use mathlib.Core.Bool.{Bool, true, false, not, _&&_, _||_, cond}
+use mathlib.Core.Bool.{Bool, true, false, not, _||_, cond}
 use mathlib.Core.Option.{Option, none, some}
-use mathlib.Core.List.{List, [], _∷_}
+use mathlib.Core.List.{List, [], _∷_, List·Memᴰ·head as here, List·Memᴰ·tail as there}
 use lib.Dec.{T, leb, ltb}
 use lib.ListN.{length, getD}
 use lib.Ieee.{Float, binary32, fits, nan}
-use borrow.Author.Tests.{leb-true, ltb-true, ltb-false, not-false}
+use borrow.Author.Tests.{leb-true, ltb-true, ltb-false, not-false, lt-ltb, le-ltb, le-leb, lt-leb}
 use Rattle.lists.specs.Lists.{all}
-use Rattle.lists.specs.Members.{member-at}
-use Rattle.lists.specs.Tests.{or-neither, and-both}
+use Rattle.lists.specs.Members.{member-at, all-each}
+use Rattle.lists.specs.Tests.{case, lt-or-le, or-neither}
 use Rattle.model.specs.Basics.{0f, Refusal as ModelRefusal, refuse}
 use Rattle.model.specs.Graph.{Graph, states, hasEps, runsFrom0, checkGraph}
 use Rattle.model.specs.Checked.{GoodGraph, checked}
@@ -46,19 +46,22 @@ least a b = cond (ltb b a) b a
 abbrev pub capacityOf : Lent → ℕ
 capacityOf m = least (length (m .records) / 8) (least (length (m .labels) / 2) (length (m .gaps) / 2))
 
+-- the lengths of the slices that a call works in, each with a place for every state
+abbrev pub scratchOf : List Float → (keys places order : List ℕ) → List ℕ
+scratchOf sc ks ps os = length sc ∷ length ks ∷ length ps ∷ length os ∷ []
+
 -- the places that are judged: of each store that is kept per state, and of the records
-abbrev pub placesOf : Lent → (scratch eps : ℕ) → FitPlaces
-placesOf m scratch eps = record { perState = length (m .tokens) / 8 ∷ length (m .sums) / 4 ∷ scratch ∷ eps ∷ []; records = capacityOf m }
+abbrev pub placesOf : Lent → (scratch : List ℕ) → (eps : ℕ) → FitPlaces
+placesOf m scratch eps = record { perState = length (m .tokens) / 8 ∷ length (m .sums) / 4 ∷ eps ∷ scratch; records = capacityOf m }
 
 abbrev pub configWrong : Config → Bool
 configWrong c = not (fair (c .beam)) || not (fair (c .«beam_delta»)) || leb (c .«max_active») (c .«min_active»)
 
-abbrev pub perStateWrong : (n tokens sums scratch eps : ℕ) → Bool
-perStateWrong n tk sm scr ep = not (all (λ k. leb n k) (tk / 8 ∷ sm / 4 ∷ scr ∷ ep ∷ []))
+abbrev pub scratchWrong : (n : ℕ) → (scratch : List ℕ) → Bool
+scratchWrong n scratch = not (all (λ k. leb n k) scratch)
 
--- by the four tests of stores per state, and the one of the records
-abbrev pub wrongBy : (a b d e many : Bool) → Bool
-wrongBy a b d e many = not (a && (b && (d && (e && true)))) || many
+abbrev pub perStateWrong : (n tokens sums eps : ℕ) → (scratch : List ℕ) → Bool
+perStateWrong n tk sm ep scratch = scratchWrong n (tk / 8 ∷ sm / 4 ∷ ep ∷ scratch)
 
 abbrev pub unfit : Refusal
 unfit = record { number = 6; place = Nowhere }
@@ -73,20 +76,38 @@ fittedBy (CallDone d) = Done d
 fittedBy (CallRefused d f) = Refused d f
 
 -- A refused graph, settings that are refused, or the answer of the fitting's own start, at the exact limits. What is refused by 1 to 6 changes nothing.
-pub data FitIs (g : Graph) (T : Tables) (m m' : Lent) (scratch places : ℕ) (eps eps' : List ℕ) (c : Config) : Fitted → Type 0 where
+pub data FitIs (g : Graph) (T : Tables) (m m' : Lent) (scratch : List ℕ) (places : ℕ) (eps eps' : List ℕ) (c : Config) : Fitted → Type 0 where
   fitGraph : (w : ModelRefusal) → checkGraph g ≡ some w → m' ≡ m → eps' ≡ eps → FitIs g T m m' scratch places eps eps' c (Unfit (refusalOf w))
   fitUnfit : checkGraph g ≡ none → checkFit g (configOf c) (placesOf m scratch (length eps)) ≡ some 6 → m' ≡ m → eps' ≡ eps → FitIs g T m m' scratch places eps eps' c (Unfit unfit)
   fitCalled : {r : Called} → checkGraph g ≡ none → checkFit g (configOf c) (placesOf m scratch (length eps)) ≡ none
       → ((l : Limits) → LimitsAre l (capacityOf m) places → CalledBy g (configOf c) l T m' eps' places (call g (configOf c) l startCall (fitted g)) r) → FitIs g T m m' scratch places eps eps' c (fittedBy r)
 
+-- ---- the tests, one by one
+
+module _ (n k : ℕ) where
+  pub short-here : (more : List ℕ) → k < n → true ≡ scratchWrong n (k ∷ more)
+  short-here more h = rw (lt-leb n k h)
+
+  pub enough-here : (more : List ℕ) (b : Bool) → n ≤ k → b ≡ scratchWrong n more → b ≡ scratchWrong n (k ∷ more)
+  enough-here more b h e = rw (le-leb n k h) e
+
+  pub short-last : ltb k n ≡ scratchWrong n (k ∷ [])
+  short-last = case (lt-or-le k n) (λ h. rw (lt-ltb k n h, lt-leb n k h)) (λ h. rw (le-ltb k n h, le-leb n k h))
+
+pub wrong-first : (a b : Bool) → true ≡ a → true ≡ (a || b)
+wrong-first a b e = ap (λ (x : Bool). x || b) e
+
+pub wrong-second : (a b : Bool) → false ≡ a → b ≡ (a || b)
+wrong-second a b e = ap (λ (x : Bool). x || b) e
+
 -- ---- the checks
 
-module _ (g : Graph) (m : Lent) (scratch eps : ℕ) (c : Config) where
+module _ (g : Graph) (m : Lent) (scratch : List ℕ) (eps : ℕ) (c : Config) where
   abbrev ps : FitPlaces
   ps = placesOf m scratch eps
 
   abbrev per : Bool
-  per = perStateWrong (states g) (length (m .tokens)) (length (m .sums)) scratch eps
+  per = perStateWrong (states g) (length (m .tokens)) (length (m .sums)) eps scratch
 
   abbrev many : Bool
   many = ltb 1_048_576 (capacityOf m)
@@ -126,14 +147,11 @@ bit-test true = refl
 bit-test false = refl
 
 -- stores that are not refused have the places
-pub places-in : (n tk sm scr ep k : ℕ) → (perStateWrong n tk sm scr ep || ltb 1_048_576 k) ≡ false → (n ≤ tk / 8) × (n ≤ sm / 4) × (n ≤ ep) × (k ≤ 1_048_576)
-places-in n tk sm scr ep k e =
-    let z = not-false (all (λ j. leb n j) (tk / 8 ∷ sm / 4 ∷ scr ∷ ep ∷ [])) (or-neither (perStateWrong n tk sm scr ep) (ltb 1_048_576 k) e .0) in
-    let a = and-both (leb n (tk / 8)) (all (λ j. leb n j) (sm / 4 ∷ scr ∷ ep ∷ [])) z in
-    let b = and-both (leb n (sm / 4)) (all (λ j. leb n j) (scr ∷ ep ∷ [])) (a .1) in
-    let d = and-both (leb n scr) (all (λ j. leb n j) (ep ∷ [])) (b .1) in
-    let f = and-both (leb n ep) true (d .1) in
-    (leb-true n (tk / 8) (a .0), leb-true n (sm / 4) (b .0), leb-true n ep (f .0), ltb-false 1_048_576 k (or-neither (perStateWrong n tk sm scr ep) (ltb 1_048_576 k) e .1))
+pub places-in : (n tk sm ep : ℕ) (scratch : List ℕ) (k : ℕ) → (perStateWrong n tk sm ep scratch || ltb 1_048_576 k) ≡ false → (n ≤ tk / 8) × (n ≤ sm / 4) × (n ≤ ep) × (k ≤ 1_048_576)
+places-in n tk sm ep scratch k e =
+    let no = or-neither (perStateWrong n tk sm ep scratch) (ltb 1_048_576 k) e in
+    let z = all-each (λ j. leb n j) (tk / 8 ∷ sm / 4 ∷ ep ∷ scratch) (not-false (all (λ j. leb n j) (tk / 8 ∷ sm / 4 ∷ ep ∷ scratch)) (no .0)) in
+    (leb-true n (tk / 8) (z (tk / 8) (here refl)), leb-true n (sm / 4) (z (sm / 4) (there (here refl))), leb-true n ep (z ep (there (there (here refl)))), ltb-false 1_048_576 k (no .1))
 
 -- what filling the table of epsilon states asks
 pub fill-asks : (g : Graph) (v : Value) → Accepted v ≡ buildOf g → (ep : ℕ) → v .states ≤ ep → (runsFrom0 (length (g .ilabels)) (g .offsets) ≡ true) × (length (g .offsets) ≤ ep + 1)
@@ -142,8 +160,8 @@ fill-asks g v built ep l =
     let sh = checked g (w .0) .shape in
     (sh .rising, let z = sh .offsets in let e = ap (λ (x : Value). x .states) (w .1) in omega arith)
 
-module _ (g : Graph) (T : Tables) (m : Lent) (scratch places : ℕ) (eps eps' : List ℕ) (c : Config) (v : Value) (built : Accepted v ≡ buildOf g) (of : TablesOf g Nonemitting T) (floats : Floats32 g) (long : length eps' ≡ length eps)
-    (filled : EpsFilled (g .offsets) (g .ilabels) eps eps') (stores-ok : (perStateWrong (v .states) (length (m .tokens)) (length (m .sums)) scratch (length eps) || ltb 1_048_576 (capacityOf m)) ≡ false) where
+module _ (g : Graph) (T : Tables) (m : Lent) (scratch : List ℕ) (places : ℕ) (eps eps' : List ℕ) (c : Config) (v : Value) (built : Accepted v ≡ buildOf g) (of : TablesOf g Nonemitting T) (floats : Floats32 g) (long : length eps' ≡ length eps)
+    (filled : EpsFilled (g .offsets) (g .ilabels) eps eps') (stores-ok : (perStateWrong (v .states) (length (m .tokens)) (length (m .sums)) (length eps) scratch || ltb 1_048_576 (capacityOf m)) ≡ false) where
   pub accepted : checkGraph g ≡ none
   accepted = was-accepted g v built .0
 
@@ -157,11 +175,11 @@ module _ (g : Graph) (T : Tables) (m : Lent) (scratch places : ℕ) (eps eps' : 
   states-are = ap (λ (x : Value). x .states) value-is
 
   small : capacityOf m ≤ 1_048_576
-  small = places-in (v .states) (length (m .tokens)) (length (m .sums)) scratch (length eps) (capacityOf m) stores-ok .3
+  small = places-in (v .states) (length (m .tokens)) (length (m .sums)) (length eps) scratch (capacityOf m) stores-ok .3
 
   room : Places (v .states) (capacityOf m) m
   room =
-      let z = places-in (v .states) (length (m .tokens)) (length (m .sums)) scratch (length eps) (capacityOf m) stores-ok in
+      let z = places-in (v .states) (length (m .tokens)) (length (m .sums)) (length eps) scratch (capacityOf m) stores-ok in
       let x = z .0 in
       let y = z .1 in
       let p = least-le (length (m .records) / 8) (least (length (m .labels) / 2) (length (m .gaps) / 2)) in
@@ -173,7 +191,7 @@ module _ (g : Graph) (T : Tables) (m : Lent) (scratch places : ℕ) (eps eps' : 
       record { tokens = omega arith; sums = omega arith; store = record { records = omega arith; labels = omega arith; gaps = omega arith } }
 
   eps-room : v .states ≤ length eps
-  eps-room = places-in (v .states) (length (m .tokens)) (length (m .sums)) scratch (length eps) (capacityOf m) stores-ok .2
+  eps-room = places-in (v .states) (length (m .tokens)) (length (m .sums)) (length eps) scratch (capacityOf m) stores-ok .2
 
   pub begin-given : (l : Limits) → LimitsAre l (capacityOf m) places → BeginGiven g (configOf c) l T m eps' places (newDecoder v c (capacityOf m)) (fitted g)
   begin-given l L =
@@ -209,11 +227,11 @@ module _ (g : Graph) (T : Tables) (m : Lent) (scratch places : ℕ) (eps eps' : 
   fit-called w d e m' r B f q =
       subst (FitIs g T m m' scratch places eps eps' c) (sym q)
       (fitCalled accepted
-      (fit-accepted g m scratch (length eps) c w (subst (λ (n : ℕ). (perStateWrong n (length (m .tokens)) (length (m .sums)) scratch (length eps) || ltb 1_048_576 (capacityOf m)) ≡ false) states-are stores-ok))
+      (fit-accepted g m scratch (length eps) c w (subst (λ (n : ℕ). (perStateWrong n (length (m .tokens)) (length (m .sums)) (length eps) scratch || ltb 1_048_576 (capacityOf m)) ≡ false) states-are stores-ok))
       (λ l L. subst (λ (y : Decoder). BeginIs T m m' eps' places y r) e B g (configOf c) l (fitted g) (begin-given l L)))
 
 -- refused before anything is written
-module _ (g : Graph) (T : Tables) (m : Lent) (scratch places : ℕ) (eps : List ℕ) (c : Config) where
+module _ (g : Graph) (T : Tables) (m : Lent) (scratch : List ℕ) (places : ℕ) (eps : List ℕ) (c : Config) where
   pub graph-refused : (f : Refusal) → NotBuilt f ≡ buildOf g → FitIs g T m m scratch places eps eps c (Unfit f)
   graph-refused f e = go (checkGraph g) refl e
     where
@@ -224,8 +242,8 @@ module _ (g : Graph) (T : Tables) (m : Lent) (scratch places : ℕ) (eps : List 
   pub config-unfit : (v : Value) → Accepted v ≡ buildOf g → configWrong c ≡ true → FitIs g T m m scratch places eps eps c (Unfit unfit)
   config-unfit v b e = fitUnfit (was-accepted g v b .0) (config-refused g m scratch (length eps) c e) refl refl
 
-  pub stores-unfit : (v : Value) → Accepted v ≡ buildOf g → configWrong c ≡ false → (perStateWrong (v .states) (length (m .tokens)) (length (m .sums)) scratch (length eps) || ltb 1_048_576 (capacityOf m)) ≡ true
+  pub stores-unfit : (v : Value) → Accepted v ≡ buildOf g → configWrong c ≡ false → (perStateWrong (v .states) (length (m .tokens)) (length (m .sums)) (length eps) scratch || ltb 1_048_576 (capacityOf m)) ≡ true
       → FitIs g T m m scratch places eps eps c (Unfit unfit)
   stores-unfit v b e d =
       fitUnfit (was-accepted g v b .0)
-      (stores-refused g m scratch (length eps) c e (subst (λ (n : ℕ). (perStateWrong n (length (m .tokens)) (length (m .sums)) scratch (length eps) || ltb 1_048_576 (capacityOf m)) ≡ true) (ap (λ (x : Value). x .states) (was-accepted g v b .1)) d)) refl refl
+      (stores-refused g m scratch (length eps) c e (subst (λ (n : ℕ). (perStateWrong n (length (m .tokens)) (length (m .sums)) (length eps) scratch || ltb 1_048_576 (capacityOf m)) ≡ true) (ap (λ (x : Value). x .states) (was-accepted g v b .1)) d)) refl refl

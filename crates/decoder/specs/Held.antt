@@ -1,17 +1,18 @@
 -- What a caller holds from call to call, and how each call's contract hands it on. Assumes nothing.
 use mathlib.Core.Path.{_≡_, refl}
-use Prim.Native.Nat.{ℕ, _/_, _≤_}
+use Prim.Native.Nat.{ℕ}
 use native.Mathlib.Omega.{arith}
 use mathlib.Core.Bool.{Bool, true, false, not, _||_}
 use mathlib.Core.Option.{none, some}
-use mathlib.Core.List.{List, [], _∷_}
+use mathlib.Core.List.{List, List·Memᴰ·tail as there}
 use lib.Dec.{leb, ltb}
 use lib.IntN.{ℤ}
 use lib.ListN.{length}
 use lib.Ieee.{Float}
 use borrow.Author.Tests.{leb-true, not-false}
-use Rattle.lists.specs.Lists.{all}
-use Rattle.lists.specs.Tests.{or-neither, and-both}
+use Rattle.lists.specs.Lists.{_∈_, all}
+use Rattle.lists.specs.Members.{all-each}
+use Rattle.lists.specs.Tests.{or-neither}
 use Rattle.model.specs.Basics.{refuse}
 use Rattle.model.specs.Graph.{Graph, states}
 use Rattle.model.specs.Path.{Limits, fullAt}
@@ -29,22 +30,22 @@ use Rattle.decoder.specs.declared.Called.the-variants.{Done, Refused}
 use Rattle.decoder.specs.declared.Fitted.{Fitted}
 use Rattle.decoder.specs.declared.Fitted.the-variants.{Unfit, Done as FitDone, Refused as FitRefused}
 use Rattle.decoder.specs.Represents.{Represents, Left, FrameLeft, CalledBy, calledDone, calledRefused}
-use Rattle.decoder.specs.Reads.{FinalsLeft, ActiveLeft, RelativeLeft}
+use Rattle.decoder.specs.Reads.{FinalsLeft, ActiveLeft, RelativeLeft, Wide, AlternativesLeft}
 use Rattle.decoder.specs.Fit.{capacityOf, placesOf, configWrong, fittedBy, FitIs, fitGraph, fitUnfit, fitCalled}
 
--- stores that a call has left, of a graph with these final weights, and a scratch for every state
-pub record Held (T : Tables) (m : Lent) (finals : List Float) (eps : List ℕ) (places scratch : ℕ) (d : Decoder) : Type 0 where
+-- stores that a call has left, of a graph with these final weights, and scratch slices of these lengths with a place for every state
+pub record Held (T : Tables) (m : Lent) (finals : List Float) (eps : List ℕ) (places : ℕ) (scratch : List ℕ) (d : Decoder) : Type 0 where
   pub left : Left T m eps places d
   pub finals-are : left .g .finals ≡ finals
-  pub wide : states (left .g) ≤ scratch
+  pub wide : Wide (states (left .g)) scratch
 
 -- a decoder goes on after a call, accepted or refused
-abbrev pub HeldBy : (T : Tables) (m : Lent) (finals : List Float) (eps : List ℕ) (places scratch : ℕ) → Called → Type 0
+abbrev pub HeldBy : (T : Tables) (m : Lent) (finals : List Float) (eps : List ℕ) (places : ℕ) (scratch : List ℕ) → Called → Type 0
 HeldBy T m finals eps places scratch (Done d) = Held T m finals eps places scratch d
 HeldBy T m finals eps places scratch (Refused d f) = Held T m finals eps places scratch d
 
 -- there is one after a fitting that is not refused by 1 to 6
-abbrev pub HeldFitted : (T : Tables) (m : Lent) (finals : List Float) (eps : List ℕ) (places scratch : ℕ) → Fitted → Type 0
+abbrev pub HeldFitted : (T : Tables) (m : Lent) (finals : List Float) (eps : List ℕ) (places : ℕ) (scratch : List ℕ) → Fitted → Type 0
 HeldFitted T m finals eps places scratch (Unfit f) = Unit {0}
 HeldFitted T m finals eps places scratch (FitDone d) = Held T m finals eps places scratch d
 HeldFitted T m finals eps places scratch (FitRefused d f) = Held T m finals eps places scratch d
@@ -56,8 +57,8 @@ abbrev pub Promised : (T : Tables) (m m' : Lent) (eps : List ℕ) (places : ℕ)
 Promised T m m' eps places k d r =
     (g : Graph) (c : Settings) (l : Limits) (fs : List Heard) (st : State) → Represents g c l T m eps places d fs st → CalledBy g c l T m' eps places (call g c l k st) r
 
-module _ (T : Tables) (finals : List Float) (eps : List ℕ) (places scratch : ℕ) where
-  called-held : (g : Graph) (c : Settings) (l : Limits) (m : Lent) (s : Said) (r : Called) → g .finals ≡ finals → states g ≤ scratch → CalledBy g c l T m eps places s r → HeldBy T m finals eps places scratch r
+module _ (T : Tables) (finals : List Float) (eps : List ℕ) (places : ℕ) (scratch : List ℕ) where
+  called-held : (g : Graph) (c : Settings) (l : Limits) (m : Lent) (s : Said) (r : Called) → g .finals ≡ finals → Wide (states g) scratch → CalledBy g c l T m eps places s r → HeldBy T m finals eps places scratch r
   called-held g c l m s r e w (calledDone fs a R) = record { left = record { g = g; c = c; l = l; fs = fs; st = s .state; is = R }; finals-are = e; wide = w }
   called-held g c l m s r e w (calledRefused fs a R) = record { left = record { g = g; c = c; l = l; fs = fs; st = s .state; is = R }; finals-are = e; wide = w }
 
@@ -67,22 +68,21 @@ module _ (T : Tables) (finals : List Float) (eps : List ℕ) (places scratch : �
       called-held (L .g) (L .c) (L .l) m' (call (L .g) (L .c) (L .l) k (L .st)) r (H .finals-are) (H .wide) (P (L .g) (L .c) (L .l) (L .fs) (L .st) (L .is))
 
 -- accepted settings come with scratch for every state
-scratch-wide : (g : Graph) (m : Lent) (scratch eps : ℕ) (c : Config) → checkFit g (configOf c) (placesOf m scratch eps) ≡ none → states g ≤ scratch
+scratch-wide : (g : Graph) (m : Lent) (scratch : List ℕ) (eps : ℕ) (c : Config) → checkFit g (configOf c) (placesOf m scratch eps) ≡ none → Wide (states g) scratch
 unfolding checkFit
-scratch-wide g m scratch eps c e =
-    let four = all (λ k. leb (states g) k) (length (m .tokens) / 8 ∷ length (m .sums) / 4 ∷ scratch ∷ eps ∷ []) in
-    let no = passed (configWrong c || not four || ltb 1_048_576 (capacityOf m)) e in
-    let a = or-neither (configWrong c || not four) (ltb 1_048_576 (capacityOf m)) no .0 in
-    let z = not-false four (or-neither (configWrong c) (not four) a .1) in
-    let b = and-both (leb (states g) (length (m .tokens) / 8)) (all (λ k. leb (states g) k) (length (m .sums) / 4 ∷ scratch ∷ eps ∷ [])) z in
-    let d = and-both (leb (states g) (length (m .sums) / 4)) (all (λ k. leb (states g) k) (scratch ∷ eps ∷ [])) (b .1) in
-    leb-true (states g) scratch (and-both (leb (states g) scratch) (all (λ k. leb (states g) k) (eps ∷ [])) (d .1) .0)
+scratch-wide g m scratch eps c e k i =
+    let per = placesOf m scratch eps .perState in
+    let enough = all (λ n. leb (states g) n) per in
+    let no = passed (configWrong c || not enough || ltb 1_048_576 (capacityOf m)) e in
+    let a = or-neither (configWrong c || not enough) (ltb 1_048_576 (capacityOf m)) no .0 in
+    let z = not-false enough (or-neither (configWrong c) (not enough) a .1) in
+    leb-true (states g) k (all-each (λ n. leb (states g) n) per z k (there (there (there i))))
   where
     passed : (b : Bool) → refuse 6 b ≡ none → b ≡ false
     passed true q = let z : _≡_ {A = ℕ} 0 1 = cc in absurd (omega arith)
     passed false q = refl
 
-pub fit-held : (g : Graph) (T : Tables) (m m' : Lent) (scratch places : ℕ) (eps eps' : List ℕ) (c : Config) (f : Fitted) → FitIs g T m m' scratch places eps eps' c f → HeldFitted T m' (g .finals) eps' places scratch f
+pub fit-held : (g : Graph) (T : Tables) (m m' : Lent) (scratch : List ℕ) (places : ℕ) (eps eps' : List ℕ) (c : Config) (f : Fitted) → FitIs g T m m' scratch places eps eps' c f → HeldFitted T m' (g .finals) eps' places scratch f
 fit-held g T m m' scratch places eps eps' c f (fitGraph w a b e) = tt
 fit-held g T m m' scratch places eps eps' c f (fitUnfit a b e i) = tt
 fit-held g T m m' scratch places eps eps' c f (fitCalled {r} a b k) =
@@ -97,9 +97,16 @@ fit-held g T m m' scratch places eps eps' c f (fitCalled {r} a b k) =
 
 -- ---- and meets what a call asks
 
-module _ {T : Tables} {finals : List Float} {eps : List ℕ} {places scratch : ℕ} {d : Decoder} where
-  pub frame-left : (m : Lent) → Held T m finals eps places scratch d → FrameLeft T m eps places scratch d
-  frame-left m H = record { left = H .left; wide = let z = H .left .is .fixed .states-are in let k = H .wide in omega arith }
+module _ {T : Tables} {finals : List Float} {eps : List ℕ} {places : ℕ} {scratch : List ℕ} {d : Decoder} where
+  -- fewer scratch slices
+  pub held-fewer : (m : Lent) (fewer : List ℕ) → ((k : ℕ) → k ∈ fewer → k ∈ scratch) → Held T m finals eps places scratch d → Held T m finals eps places fewer d
+  held-fewer m fewer f H = record { left = H .left; finals-are = H .finals-are; wide = λ k i. H .wide k (f k i) }
+
+  wide-states : (m : Lent) → Held T m finals eps places scratch d → Wide (d .graph .states) scratch
+  wide-states m H k i = let z = H .left .is .fixed .states-are in let w = H .wide k i in omega arith
+
+  pub frame-left : (m : Lent) (k : ℕ) → k ∈ scratch → Held T m finals eps places scratch d → FrameLeft T m eps places k d
+  frame-left m k i H = record { left = H .left; wide = wide-states m H k i }
 
   module _ {tk : List ℕ} {sm : List Float} {rs : List ℕ} {ls : List ℤ} {gs : List Float} (H : Held T (lent tk sm rs ls gs) finals eps places scratch d) where
     pub finals-left : FinalsLeft tk sm rs ls finals d
@@ -112,3 +119,6 @@ module _ {T : Tables} {finals : List Float} {eps : List ℕ} {places scratch : �
 
     pub active-left : ActiveLeft tk d
     active-left = record { sums = sm; records = rs; labels = ls; left = finals-left .left }
+
+    pub alternatives-left : (fewer : List ℕ) → ((k : ℕ) → k ∈ fewer → k ∈ scratch) → AlternativesLeft tk sm rs ls finals fewer d
+    alternatives-left fewer f = record { left = finals-left; wide = λ k i. wide-states (lent tk sm rs ls gs) H k (f k i) }

@@ -4,11 +4,12 @@ use Prim.Native.Nat.{ℕ, _-_, _*_, _≤_}
 use native.Mathlib.Omega.{arith}
 use mathlib.Core.Bool.{Bool, true, false, _&&_, cond}
 use mathlib.Core.Option.{Option, none, some}
-use mathlib.Core.List.{List}
+use mathlib.Core.List.{List, [], _∷_, List·Memᴰ·head as here, List·Memᴰ·tail as there}
 use lib.IntN.{ℤ}
 use lib.ListN.{length}
 use lib.Dec.{T}
 use lib.Ieee.{Float, neg, lt}
+use Rattle.lists.specs.Lists.{_∈_}
 use Rattle.lists.specs.Tests.{holds, is-true}
 use Rattle.real32.specs.Order.{lt-le-trans}
 use Rattle.real32.specs.Small.{huge, tame}
@@ -17,7 +18,7 @@ use Rattle.model.specs.Graph.{Graph, states}
 use Rattle.model.specs.Path.{Limits}
 use Rattle.model.specs.Cutoff.{Config as Settings}
 use Rattle.model.specs.Passes.{State, fair, fairMargin, setKeep}
-use Rattle.model.specs.Calls.{bestPathRead, relativeCostRead, numActiveRead, framesDecodedRead, keepCall, readCall, countAnswer, costAnswer, readAnswer, Said, said, call}
+use Rattle.model.specs.Calls.{bestPathRead, alternativesRead, relativeCostRead, numActiveRead, framesDecodedRead, keepCall, readCall, countAnswer, costAnswer, readAnswer, Said, said, call}
 use Rattle.joins.specs.declared.Margin.the-variants.{Off, Within}
 use Rattle.joins.specs.Model.{marginOf}
 use Rattle.copy_laws.specs.Walks.{Heard}
@@ -27,6 +28,10 @@ use Rattle.arcs.specs.State.{Tables}
 use Rattle.traceback.specs.declared.BestPath.{BestPath}
 use Rattle.traceback.specs.Table.{Counted, RelativeIs}
 use Rattle.traceback.specs.Right.{Parts, placesOf, bestAs, BestKeeps, ReadAsks, BestPathRight}
+use Rattle.readings.specs.declared.Listed.{Listed}
+use Rattle.readings.specs.Paths.{Outputs, placesIn}
+use Rattle.readings.specs.Right.{AlternativesAsk, listedAs, ListedKeeps, AlternativesRight}
+use Rattle.readings.specs.Known.{ranks-known}
 use Rattle.decoder.specs.declared.Decoder.{Decoder}
 use Rattle.decoder.specs.declared.Called.{Called}
 use Rattle.decoder.specs.declared.Called.the-variants.{Done, Refused}
@@ -112,6 +117,10 @@ unfair-is x e = sym (ap (λ (b : Bool). b && x ≺ huge) e)
 
 -- ---- the reads, of stores that a call has left
 
+-- each of these lengths is at least n
+abbrev pub Wide : ℕ → List ℕ → Type 0
+Wide n scratch = (k : ℕ) → k ∈ scratch → n ≤ k
+
 -- what a read is not lent is given beside
 pub record LeftOf (tk : List ℕ) (sm : List Float) (rs : List ℕ) (ls : List ℤ) (d : Decoder) : Type 0 where
   pub gaps : List Float
@@ -185,6 +194,23 @@ module _ {tk : List ℕ} {sm : List Float} {rs : List ℕ} {ls : List ℤ} {d : 
     unfolding call readAnswer
     best-is use-final m m' r B = (B .answer (L .g) finals-are (L .gaps) (L .st) (L .is .frames-are) finished, B .kept)
 
+    pub alternatives-asks : (keys places order : List ℕ) → Wide (d .graph .states) (length keys ∷ length places ∷ length order ∷ []) → AlternativesAsk tk sm finals rs ls (d .graph .states) (1 - d .side) (d .used) keys places order
+    alternatives-asks keys places order wide =
+        let f = L .is .fixed in
+        record {
+          read = best-asks;
+          keys-long = wide (length keys) (here refl);
+          places-long = wide (length places) (there (here refl));
+          order-long = wide (length order) (there (there (here refl)));
+          few = let z = f .states-are in let k = f .good .shape .states-few in omega arith;
+          known = ranks-known (L .g) (f .good) (f .floats) (L .fs) (L .st) (L .is .standing .active) (L .is .finished) finals finals-are finals-long;
+        }
+
+    pub alternatives-is : (use-final : Bool) (max : ℕ) (o o' : Outputs) (r : Listed) → AlternativesRight tk sm finals rs ls (d .graph .states) (1 - d .side) (d .used) (d .frames) use-final max o o' r
+        → (listedAs r o' ≡ call (L .g) (L .c) (L .l) (readCall (alternativesRead use-final max (placesIn o))) (L .st) .answer) × ListedKeeps r o o'
+    unfolding call readAnswer
+    alternatives-is use-final max o o' r B = (B .answer (L .g) finals-are (L .gaps) (L .st) (L .is .frames-are) finished, B .kept)
+
 -- a read with final weights
 pub record FinalsLeft (tk : List ℕ) (sm : List Float) (rs : List ℕ) (ls : List ℤ) (finals : List Float) (d : Decoder) : Type 0 where
   pub left : LeftOf tk sm rs ls d
@@ -201,3 +227,12 @@ RelativeCostIs tk sm finals d r = (rs : List ℕ) (ls : List ℤ) (F : FinalsLef
 abbrev pub BestPathIs : (tk : List ℕ) (sm : List Float) (rs : List ℕ) (ls : List ℤ) (finals : List Float) → Decoder → (use-final : Bool) → (m m' : Parts) → BestPath → Type 0
 BestPathIs tk sm rs ls finals d use-final m m' r =
     (F : FinalsLeft tk sm rs ls finals d) → let L = F .left in (bestAs r m' ≡ call (L .g) (L .c) (L .l) (readCall (bestPathRead use-final (placesOf m))) (L .st) .answer) × BestKeeps r m m'
+
+-- a read that works in scratch slices of these lengths
+pub record AlternativesLeft (tk : List ℕ) (sm : List Float) (rs : List ℕ) (ls : List ℤ) (finals : List Float) (scratch : List ℕ) (d : Decoder) : Type 0 where
+  pub left : FinalsLeft tk sm rs ls finals d
+  pub wide : Wide (d .graph .states) scratch
+
+abbrev pub AlternativesIs : (tk : List ℕ) (sm : List Float) (rs : List ℕ) (ls : List ℤ) (finals : List Float) → Decoder → (use-final : Bool) → (max : ℕ) → (o o' : Outputs) → Listed → Type 0
+AlternativesIs tk sm rs ls finals d use-final max o o' r =
+    (F : FinalsLeft tk sm rs ls finals d) → let L = F .left in (listedAs r o' ≡ call (L .g) (L .c) (L .l) (readCall (alternativesRead use-final max (placesIn o))) (L .st) .answer) × ListedKeeps r o o'

@@ -7,15 +7,16 @@ use mathlib.Core.List.{List, [], _∷_, _++_}
 use lib.IntN.{ℤ}
 use lib.ListN.{length, getD}
 use Rattle.lists.specs.Lists.{_∈_}
+use Rattle.lists.specs.Count.{Nodup}
 use Rattle.model.specs.Graph.{Graph, checkGraph}
 use Rattle.model.specs.Path.{Limits, fullAt}
 use Rattle.model.specs.Reads.{Traced, useFinals}
-use Rattle.model.specs.Calls.{Call, startCall, Answer, doneAnswer, pathAnswer, answers, call}
+use Rattle.model.specs.Calls.{Call, startCall, Answer, doneAnswer, pathAnswer, pathsAnswer, answers, call}
 use Rattle.copy_laws.specs.Sums.{Floats32}
 use Rattle.copy_laws.specs.Points.{reached}
 use Rattle.copy_laws.specs.Told.{toldOf}
-use Rattle.copy_laws.specs.Claims.{OnePath, NothingCut, BestOrNone, Says}
-use Rattle.copy_laws.specs.Sayings.{asksFinals, wordsIn, words-say, best-says}
+use Rattle.copy_laws.specs.Claims.{OnePath, Own, NothingCut, BestOrNone, Says, saysAlternatives}
+use Rattle.copy_laws.specs.Sayings.{asksFinals, listsIn, wordsIn, words-say, lists-say, best-says}
 use Rattle.copy_laws.specs.Segments.{Tiles}
 use Rattle.copy_laws.specs.Statement.{copy-says}
 use Rattle.cutoff.specs.declared.Config.{Config}
@@ -53,7 +54,7 @@ pub record Fitting (g : Graph) : Type 0 where
   pub passed : checkGraph g ≡ none
   pub floats : Floats32 g
 
-fitting-is : (g : Graph) (T : Tables) (m m' : Lent) (scratch places : ℕ) (eps eps' : List ℕ) (c : Config) (f : Fitted) (a : Answer) (d : Decoder) → FitIs g T m m' scratch places eps eps' c f → FittedAs f a d → Fitting g
+fitting-is : (g : Graph) (T : Tables) (m m' : Lent) (scratch : List ℕ) (places : ℕ) (eps eps' : List ℕ) (c : Config) (f : Fitted) (a : Answer) (d : Decoder) → FitIs g T m m' scratch places eps eps' c f → FittedAs f a d → Fitting g
 fitting-is g T m m' scratch places eps eps' c f a d (fitGraph w x y z) A = absurd A
 fitting-is g T m m' scratch places eps eps' c f a d (fitUnfit w x y z) A = absurd A
 fitting-is g T m m' scratch places eps eps' c f a d (fitCalled {r} x y k) A = record { passed = x; floats = known r _ (k own (record { full = λ ps. refl; queue = refl })) }
@@ -67,7 +68,7 @@ fitting-is g T m m' scratch places eps eps' c f a d (fitCalled {r} x y k) A = re
 
 -- ---- every answer
 
-module _ (g : Graph) (T : Tables) (m m' : Lent) (scratch places : ℕ) (eps eps' : List ℕ) (c : Config) (f : Fitted) (first : Answer) (d : Decoder) (F : FitIs g T m m' scratch places eps eps' c f) (A : FittedAs f first d)
+module _ (g : Graph) (T : Tables) (m m' : Lent) (scratch : List ℕ) (places : ℕ) (eps eps' : List ℕ) (c : Config) (f : Fitted) (first : Answer) (d : Decoder) (F : FitIs g T m m' scratch places eps eps' c f) (A : FittedAs f first d)
     (before : List Call) (xs : List Answer) (k : Call) (a : Answer) (later : List Call) (ys : List Answer) (e : length before ≡ length xs) (R : Runs T (g .finals) eps' places m' d (before ++ (k ∷ later)) (xs ++ (a ∷ ys))) where
   -- the calls before this one, from the fitting's own start on, each with what the copy is told of it
   abbrev pub past : List (Call × ℕ)
@@ -87,7 +88,7 @@ module _ (g : Graph) (T : Tables) (m m' : Lent) (scratch places : ℕ) (eps eps'
       subst (Says g (configOf c) past k) (ap₂ (λ (l : List Answer) (i : ℕ). getD l i doneAnswer) alike (told-length (startCall ∷ before) (first ∷ xs) (ap suc e)) ∙ at-middle (first ∷ xs) a doneAnswer ys)
       (copy-says g (configOf c) (known .passed) (known .floats) past k (toldOf a) (told later ys))
 
-  -- the words of a best path are the nonzero output labels of one path over the frames decoded
+  -- the words of a best path, and of every alternative, are the nonzero output labels of one path over the frames decoded
   pub run-words : (ws : List ℤ) → ws ∈ wordsIn a → OnePath g (reached g (configOf c) past) (useFinals g (reached g (configOf c) past .state) (asksFinals k)) ws
   run-words = words-say g (configOf c) past k a run-says
 
@@ -98,3 +99,14 @@ module _ (g : Graph) (T : Tables) (m m' : Lent) (scratch places : ℕ) (eps eps'
   -- its segments are nonempty, abut, and run from 0 to the frames decoded
   pub run-segments : (tr : Traced) → a ≡ pathAnswer (some tr) → Tiles 0 (reached g (configOf c) past .state .frames) (tr .phones) × (reached g (configOf c) past .state .frames ≡ 0 → tr .phones ≡ [])
   run-segments tr q = let b = run-costs-least (some tr) q in (b .own .tiles, b .own .none-at-0)
+
+  -- no two alternatives have the same words
+  pub run-distinct : (lists : List (List ℤ)) → lists ∈ listsIn a → Nodup lists
+  run-distinct = lists-say g (configOf c) past k a run-says
+
+  -- an alternative's segments, frames and cost are those of its path too
+  pub run-alternatives : (trs : List Traced) → a ≡ pathsAnswer trs → (tr : Traced) → tr ∈ trs → Own g (reached g (configOf c) past) (useFinals g (reached g (configOf c) past .state) (asksFinals k)) tr
+  run-alternatives trs q tr i = each k (subst (Says g (configOf c) past k) q run-says)
+    where
+      each : (j : Call) → Says g (configOf c) past j (pathsAnswer trs) → Own g (reached g (configOf c) past) (useFinals g (reached g (configOf c) past .state) (asksFinals j)) tr
+      each j (saysAlternatives b) = b .each tr i

@@ -3,6 +3,7 @@ ghost use mathlib.Core.Path.{_≡_};
 ghost use mathlib.Core.Logic.{_⊎_};
 ghost use mathlib.Core.Bool.{not, _||_};
 ghost use Prim.Native.Nat.{_*_, _≤_, _<_, _/_};
+ghost use mathlib.Core.List.{[], _∷_};
 ghost use lib.Dec.{ltb};
 ghost use lib.ListN.{length};
 ghost use Rattle.lists.specs.Lists.{all};
@@ -12,12 +13,13 @@ ghost use Rattle.arcs.specs.State.{tables};
 ghost use Rattle.nonemitting.specs.Expand.{graphTables};
 ghost use Rattle.model.specs.Passes.{fair, fairMargin};
 ghost use Rattle.traceback.specs.Right.{parts};
+ghost use Rattle.readings.specs.Paths.{outputs};
 ghost use Rattle.fst.specs.Answer.{graphOf};
 ghost use Rattle.decoder.specs.Represents.{settingOf, Left, FrameLeft};
 ghost use Rattle.decoder.specs.Begin.{movedTo, emptiedOf, turnedOf, BothCleared, BeginAsks, BeginIs};
-ghost use Rattle.decoder.specs.Fit.{least, configWrong, perStateWrong, fittedBy, newDecoder, FitIs};
+ghost use Rattle.decoder.specs.Fit.{least, configWrong, scratchOf, scratchWrong, perStateWrong, fittedBy, newDecoder, FitIs};
 ghost use Rattle.decoder.specs.Frame.{frameNumber, NewestIs, BackIs, RunGiven, RunIs, StartIs, FrameIs};
-ghost use Rattle.decoder.specs.Reads.{asked, withMargin, KeepIs, FramesIs, ActiveLeft, ActiveIs, RelativeLeft, RelativeCostIs, FinalsLeft, BestPathIs};
+ghost use Rattle.decoder.specs.Reads.{asked, withMargin, KeepIs, FramesIs, ActiveLeft, ActiveIs, RelativeLeft, RelativeCostIs, FinalsLeft, BestPathIs, AlternativesLeft, AlternativesIs};
 use arcs::Passed;
 use arcs::Work;
 use arrivals::Setting;
@@ -27,6 +29,7 @@ use fst::Graph;
 use fst::NO_STATE;
 use fst::Place;
 use fst::Refusal;
+use readings::Listed;
 use tokens::Token;
 use traceback::BestPath;
 
@@ -227,16 +230,41 @@ fn capacity(records: &[u32], labels: &[i32], gaps: &[f32]) -> usize
     smaller(records.len() / 8, smaller(labels.len() / 2, gaps.len() / 2))
 }
 
+// Whether a slice that a call works in has fewer places than states.
+fn scratch_wrong(
+    scratch: &[f32],
+    keys: &[u64],
+    places: &[u32],
+    order: &[u32],
+    states: usize,
+) -> bool
+    ensures { λ r. ⌜ r ≡ scratchWrong states (scratchOf (now (scratch .entry)) (now (keys .entry)) (now (places .entry)) (now (order .entry))) ⌝ }
+{
+    if scratch.len() < states {
+        return true;
+    }
+    if keys.len() < states {
+        return true;
+    }
+    if places.len() < states {
+        return true;
+    }
+    order.len() < states
+}
+
 // 6, of the stores: each that is kept per state has a place for every state, and no more than 1,048,576 records.
 fn stores_wrong(
     tokens: &[u32],
     sums: &[f32],
     scratch: &[f32],
+    keys: &[u64],
+    places: &[u32],
+    order: &[u32],
     eps: &[u8],
     states: usize,
     cap: usize,
 ) -> bool
-    ensures { λ r. ⌜ r ≡ (perStateWrong states (length (now (tokens .entry))) (length (now (sums .entry))) (length (now (scratch .entry))) (length (now (eps .entry))) || ltb 1_048_576 cap) ⌝ }
+    ensures { λ r. ⌜ r ≡ (perStateWrong states (length (now (tokens .entry))) (length (now (sums .entry))) (length (now (eps .entry))) (scratchOf (now (scratch .entry)) (now (keys .entry)) (now (places .entry)) (now (order .entry))) || ltb 1_048_576 cap) ⌝ }
 {
     if tokens.len() / 8 < states {
         return true;
@@ -244,10 +272,10 @@ fn stores_wrong(
     if sums.len() / 4 < states {
         return true;
     }
-    if scratch.len() < states {
+    if eps.len() < states {
         return true;
     }
-    if eps.len() < states {
+    if scratch_wrong(scratch, keys, places, order, states) {
         return true;
     }
     1_048_576 < cap
@@ -287,6 +315,9 @@ pub fn fit(
     gaps: &mut [f32],
     queue: &mut [u32],
     scratch: &[f32],
+    keys: &[u64],
+    places: &[u32],
+    order: &[u32],
     eps: &mut [u8],
     offsets: &[u32],
     ilabels: &[i32],
@@ -300,7 +331,7 @@ pub fn fit(
     pdfs: u32,
     config: Config,
 ) -> Fitted
-    ensures { λ r. ⌜ FitIs (graphOf (now (offsets .entry)) (now (ilabels .entry)) (now (olabels .entry)) (now (weights .entry)) (now (nextstates .entry)) (now (finals .entry)) (now (tid2pdf .entry)) (now (tid2phone .entry)) start pdfs) (graphTables (now (offsets .entry)) (now (ilabels .entry)) (now (olabels .entry)) (now (weights .entry)) (now (nextstates .entry)) (now (tid2pdf .entry)) (now (tid2phone .entry))) (lent (now (tokens .entry)) (now (sums .entry)) (now (records .entry)) (now (labels .entry)) (now (gaps .entry))) (lent (now (tokens .exit)) (now (sums .exit)) (now (records .exit)) (now (labels .exit)) (now (gaps .exit))) (length (now (scratch .entry))) (length (now (queue .entry))) (now (eps .entry)) (now (eps .exit)) config r ⌝ }
+    ensures { λ r. ⌜ FitIs (graphOf (now (offsets .entry)) (now (ilabels .entry)) (now (olabels .entry)) (now (weights .entry)) (now (nextstates .entry)) (now (finals .entry)) (now (tid2pdf .entry)) (now (tid2phone .entry)) start pdfs) (graphTables (now (offsets .entry)) (now (ilabels .entry)) (now (olabels .entry)) (now (weights .entry)) (now (nextstates .entry)) (now (tid2pdf .entry)) (now (tid2phone .entry))) (lent (now (tokens .entry)) (now (sums .entry)) (now (records .entry)) (now (labels .entry)) (now (gaps .entry))) (lent (now (tokens .exit)) (now (sums .exit)) (now (records .exit)) (now (labels .exit)) (now (gaps .exit))) (scratchOf (now (scratch .entry)) (now (keys .entry)) (now (places .entry)) (now (order .entry))) (length (now (queue .entry))) (now (eps .entry)) (now (eps .exit)) config r ⌝ }
 {
     match fst::build(
         offsets,
@@ -323,7 +354,17 @@ pub fn fit(
                 });
             }
             let cap = capacity(records, labels, gaps);
-            if stores_wrong(tokens, sums, scratch, eps, graph.states as usize, cap) {
+            if stores_wrong(
+                tokens,
+                sums,
+                scratch,
+                keys,
+                places,
+                order,
+                eps,
+                graph.states as usize,
+                cap,
+            ) {
                 return Fitted::Unfit(Refusal {
                     number: 6,
                     place: Place::Nowhere,
@@ -673,5 +714,51 @@ pub fn best_path(
         words,
         frames,
         segments,
+    )
+}
+
+// The best path of each word list, at most `max`, into lent words, frames, segments, two ends and a cost for each path.
+pub fn alternatives(
+    tokens: &[u32],
+    sums: &[f32],
+    records: &[u32],
+    labels: &[i32],
+    finals: &[f32],
+    decoder: Decoder,
+    use_final: bool,
+    max: usize,
+    keys: &mut [u64],
+    places: &mut [u32],
+    order: &mut [u32],
+    words: &mut [i32],
+    frames: &mut [u32],
+    segments: &mut [u32],
+    ends: &mut [u32],
+    costs: &mut [f32],
+) -> Listed
+    requires { ⌜ AlternativesLeft (now tokens) (now sums) (now records) (now labels) (now finals) (length (now keys) ∷ length (now places) ∷ length (now order) ∷ []) decoder ⌝ }
+    ensures { λ r. ⌜ AlternativesIs (now (tokens .entry)) (now (sums .entry)) (now (records .entry)) (now (labels .entry)) (now (finals .entry)) decoder «use_final» max (outputs (now (words .entry)) (now (frames .entry)) (now (segments .entry)) (now (ends .entry)) (now (costs .entry))) (outputs (now (words .exit)) (now (frames .exit)) (now (segments .exit)) (now (ends .exit)) (now (costs .exit))) r ⌝ }
+{
+    let finished = 1 - decoder.side;
+    readings::alternatives(
+        tokens,
+        sums,
+        finals,
+        records,
+        labels,
+        decoder.graph.states,
+        finished,
+        decoder.used,
+        decoder.frames,
+        use_final,
+        max,
+        keys,
+        places,
+        order,
+        words,
+        frames,
+        segments,
+        ends,
+        costs,
     )
 }

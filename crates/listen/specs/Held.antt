@@ -1,10 +1,11 @@
 -- What the program holds between its calls of the decoder. Assumes nothing.
 use mathlib.Core.Path.{_≡_, refl, sym, subst}
 use Prim.Native.Nat.{ℕ}
-use mathlib.Core.List.{List}
+use mathlib.Core.List.{List, [], _∷_, List·Memᴰ·head as here}
 use lib.IntN.{ℤ}
 use lib.Ieee.{Float}
 use lib.ListN.{length}
+use Rattle.lists.specs.Lists.{_∈_}
 use Rattle.model.specs.Graph.{Graph}
 use Rattle.model.specs.Calls.{frameCall}
 use Rattle.cutoff.specs.declared.Config.{Config}
@@ -17,23 +18,26 @@ use Rattle.decoder.specs.declared.Fitted.{Fitted}
 use Rattle.decoder.specs.declared.Fitted.the-variants.{Done as FitDone}
 use Rattle.decoder.specs.Frame.{FrameIs}
 use Rattle.decoder.specs.Fit.{FitIs}
-use Rattle.decoder.specs.Held.{Held, HeldBy, HeldFitted, call-held, fit-held}
+use Rattle.decoder.specs.Held.{Held, HeldBy, HeldFitted, call-held, fit-held, held-fewer}
 
 -- with a queue and a scratch that are as long
-held-as-long : (T : Tables) (m : Lent) (finals : List Float) (eps : List ℕ) (places places' scratch scratch' : ℕ) (d : Decoder) → places' ≡ places → scratch' ≡ scratch → Held T m finals eps places scratch d → Held T m finals eps places' scratch' d
-held-as-long T m finals eps places places' scratch scratch' d p q H = subst (λ (n : ℕ). Held T m finals eps n scratch' d) (sym p) (subst (λ (n : ℕ). Held T m finals eps places n d) (sym q) H)
+held-as-long : (T : Tables) (m : Lent) (finals : List Float) (eps : List ℕ) (places places' k k' : ℕ) (d : Decoder) → places' ≡ places → k' ≡ k → Held T m finals eps places (k ∷ []) d → Held T m finals eps places' (k' ∷ []) d
+held-as-long T m finals eps places places' k k' d p q H = subst (λ (n : ℕ). Held T m finals eps n (k' ∷ []) d) (sym p) (subst (λ (n : ℕ). Held T m finals eps places (n ∷ []) d) (sym q) H)
 
--- after a fitting
-pub fit-done : (g : Graph) (T : Tables) (m m' : Lent) (scratch places places' : ℕ) (eps eps' : List ℕ) (c : Config) (f : Fitted) (d : Decoder) → FitIs g T m m' scratch places eps eps' c f → f ≡ FitDone d → places' ≡ places
-    → Held T m' (g .finals) eps' places' scratch d
-fit-done g T m m' scratch places places' eps eps' c f d F e p =
-    held-as-long T m' (g .finals) eps' places places' scratch scratch d p refl (subst (HeldFitted T m' (g .finals) eps' places scratch) e (fit-held g T m m' scratch places eps eps' c f F))
+-- after a fitting: of the scratch slices, frames need the first
+pub fit-done : (g : Graph) (T : Tables) (m m' : Lent) (k : ℕ) (more : List ℕ) (places places' : ℕ) (eps eps' : List ℕ) (c : Config) (f : Fitted) (d : Decoder) → FitIs g T m m' (k ∷ more) places eps eps' c f → f ≡ FitDone d → places' ≡ places
+    → Held T m' (g .finals) eps' places' (k ∷ []) d
+fit-done g T m m' k more places places' eps eps' c f d F e p =
+    held-as-long T m' (g .finals) eps' places places' k k d p refl (held-fewer m' (k ∷ []) first (subst (HeldFitted T m' (g .finals) eps' places (k ∷ more)) e (fit-held g T m m' (k ∷ more) places eps eps' c f F)))
+  where
+    first : (j : ℕ) → j ∈ (k ∷ []) → j ∈ (k ∷ more)
+    first j (here q) = here q
 
 -- after a frame
-pub frame-done : (T : Tables) (m m' : Lent) (finals : List Float) (eps : List ℕ) (places places' scratch scratch' : ℕ) (ls : List Float) (x d : Decoder) (r : Called) → Held T m finals eps places scratch x → FrameIs T m m' eps places ls x r → r ≡ Done d → places' ≡ places → scratch' ≡ scratch
-    → Held T m' finals eps places' scratch' d
-frame-done T m m' finals eps places places' scratch scratch' ls x d r H F e p q =
-    held-as-long T m' finals eps places places' scratch scratch' d p q (subst (HeldBy T m' finals eps places scratch) e (call-held T finals eps places scratch m m' (frameCall ls) x r F H))
+pub frame-done : (T : Tables) (m m' : Lent) (finals : List Float) (eps : List ℕ) (places places' k k' : ℕ) (ls : List Float) (x d : Decoder) (r : Called) → Held T m finals eps places (k ∷ []) x → FrameIs T m m' eps places ls x r → r ≡ Done d → places' ≡ places → k' ≡ k
+    → Held T m' finals eps places' (k' ∷ []) d
+frame-done T m m' finals eps places places' k k' ls x d r H F e p q =
+    held-as-long T m' finals eps places places' k k' d p q (subst (HeldBy T m' finals eps places (k ∷ [])) e (call-held T finals eps places (k ∷ []) m m' (frameCall ls) x r F H))
 
 -- slices that are as long as others
 pub record AsLong (tk tk' : List ℕ) (sm sm' : List Float) (rs rs' : List ℕ) (ls ls' : List ℤ) (gs gs' : List Float) (qs qs' : List ℕ) (sc sc' : List Float) : Type 0 where

@@ -3,6 +3,7 @@
 // The call is "dropped stitch, carrier two" on a busy floor. In every frame carrier three is as likely as carrier two, so that two paths tie to the last bit. The
 // rule for ties decides, on every build the same: states are visited in ascending number, and of equal ranks the newest token wins.
 ghost use Prim.Native.Nat.{_≤_, _<_};
+ghost use mathlib.Core.List.{[], _∷_};
 ghost use lib.ListN.{length};
 ghost use Rattle.stores.specs.Rep.{lent};
 ghost use Rattle.nonemitting.specs.Expand.{graphTables};
@@ -114,6 +115,9 @@ fn listen(
     let mut gaps = [0.0f32; 64];
     let mut queue = [0u32; 8];
     let mut scratch = [0.0f32; 4];
+    let keys = [0u64; 4];
+    let places = [0u32; 4];
+    let order = [0u32; 4];
     let mut eps = [0u8; 4];
     match decoder::fit(
         &mut tokens,
@@ -123,6 +127,9 @@ fn listen(
         &mut gaps,
         &mut queue,
         &scratch,
+        &keys,
+        &places,
+        &order,
         &mut eps,
         offsets,
         ilabels,
@@ -180,7 +187,7 @@ fn hear_frames(
     tid2phone: &[i32],
     fitted: Decoder,
 )
-    requires { ⌜ Held (graphTables (now offsets) (now ilabels) (now olabels) (now weights) (now nextstates) (now tid2pdf) (now tid2phone)) (lent (now tokens) (now sums) (now records) (now labels) (now gaps)) (now finals) (now eps) (length (now queue)) (length (now scratch)) fitted ⌝ }
+    requires { ⌜ Held (graphTables (now offsets) (now ilabels) (now olabels) (now weights) (now nextstates) (now tid2pdf) (now tid2phone)) (lent (now tokens) (now sums) (now records) (now labels) (now gaps)) (now finals) (now eps) (length (now queue)) (length (now scratch) ∷ []) fitted ⌝ }
 {
     let mut d = fitted;
     for i in 0..FRAMES {

@@ -4,5 +4,6 @@ pub mod Fronts
 pub mod Totals
 pub mod Writing
 pub mod Right
+pub mod Known
 pub mod Grouping
 pub mod Answers

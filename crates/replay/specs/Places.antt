@@ -1,16 +1,15 @@
 -- Places in the script, and how a run of calls goes on along it. Assumes nothing.
-use mathlib.Core.Path.{_≡_, subst, sym, ap}
-use Prim.Native.Nat.{ℕ, suc, _+_, _-_, _*_, _≤_, _<_}
+use mathlib.Core.Path.{_≡_, subst, sym}
+use Prim.Native.Nat.{ℕ, suc, _+_, _-_, _≤_, _<_}
 use native.Mathlib.Omega.{arith}
 use mathlib.Core.Bool.{Bool, true, false}
 use mathlib.Core.List.{List}
-use lib.ListN.{length, take}
-use lib.Seq.{length-take-le}
+use lib.ListN.{length}
 use Rattle.script.specs.declared.Record.{Record}
 use Rattle.script.specs.declared.NextRecord.{NextRecord}
-use Rattle.traceback.specs.declared.BestPath.{BestPath}
 use Rattle.replay.specs.declared.Stop.{Stop}
 use Rattle.replay.specs.declared.Turn.{Turn}
+use Rattle.replay.specs.declared.Ends.{Ends}
 
 -- a record's payload lies within the script
 abbrev pub Inside : List ℕ → Record → Type 0
@@ -69,15 +68,9 @@ stops-behind bs from r Stop.End e l i = tt
 stops-behind bs from r (Stop.NewGraph x) e l i = subst (λ (z : Record). (from < z .start + z .count) × Inside bs z) (sym e) (l, i)
 stops-behind bs from r (Stop.NewFit x) e l i = subst (λ (z : Record). (from < z .start + z .count) × Inside bs z) (sym e) (l, i)
 
--- a path's words, their frames and its segments have places, three for each segment
-abbrev pub PathWithin : (words frames segments : ℕ) → BestPath → Type 0
-PathWithin w f s (BestPath.Refused k) = Unit {0}
-PathWithin w f s BestPath.Nobody = Unit {0}
-PathWithin w f s (BestPath.Found size cost) = (size .words ≤ w) × (size .words ≤ f) × (size .segments * 3 ≤ s)
+-- within the places of alternatives
+abbrev pub EndsWithin : Ends → Type 0
+EndsWithin t = (t .words ≤ 16384) × (t .segments ≤ 16384)
 
 pub can-fill-true : (k at n places : ℕ) (b : Bool) → CanFill k at n places b → b ≡ true → (n ≤ places) × (at + n ≤ k)
 can-fill-true k at n places b h e = subst (CanFill k at n places) e h
-
--- a part of n is at most as long as a bound of n
-pub take-within : {A : Type 0} (n b : ℕ) (xs : List A) → n ≤ b → n ≤ length xs → length (take n xs) ≤ b
-take-within n b xs l m = let z = length-take-le n xs m in omega arith

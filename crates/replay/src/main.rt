@@ -1,9 +1,10 @@
-// Reads a script of decoder calls from standard input and writes their answers, both in the binary form of oracle/FORMAT.md. Alternatives and readings are not
-// built yet and get the answer of a faulty script.
+// Reads a script of decoder calls from standard input and writes their answers, both in the binary form of oracle/FORMAT.md. Readings are not built yet and
+// get the answer of a faulty script.
 //
 // The program has places for a script of 524,287 words, graphs of 4,096 states, 16,384 arcs and 4,096 transition ids, 4,096 log-likelihoods a frame, 8,192 records,
 // and a queue of 16,384. A store is lent at the length that the script asks for, or at these where they are less. A best path has at most one word and one segment
-// for each record, so it always fits. A call that these sizes would answer otherwise gets the answer of a faulty script, and the program ends.
+// for each record, so it always fits. Alternatives have places for 16,384 words and as many segments. A call that these sizes could answer otherwise gets the
+// answer of a faulty script, and the program ends.
 use cutoff::Config;
 use decoder::Called;
 use decoder::Decoder;
@@ -13,19 +14,22 @@ use fst::Place;
 use fst::Refusal;
 use libc::STDIN_FILENO;
 use libc::STDOUT_FILENO;
+use readings::Listed;
 use script::NextRecord;
 use script::Record;
 use traceback::BestPath;
 ghost use mathlib.Core.Path.{_≡_};
 ghost use Prim.Native.Nat.{_+_, _*_, _^_, _≤_, _<_};
+ghost use mathlib.Core.List.{[], _∷_};
 ghost use lib.ListN.{length};
 ghost use Rattle.stores.specs.Rep.{lent};
 ghost use Rattle.nonemitting.specs.Expand.{graphTables};
 ghost use Rattle.decoder.specs.Represents.{Left, FrameLeft};
-ghost use Rattle.decoder.specs.Reads.{FinalsLeft, RelativeLeft};
+ghost use Rattle.decoder.specs.Reads.{FinalsLeft, RelativeLeft, AlternativesLeft};
+ghost use Rattle.decoder.specs.Fit.{scratchOf};
 ghost use Rattle.decoder.specs.Held.{Held};
 ghost use Rattle.replay.specs.declared.Answered.the-variants.{Next};
-ghost use Rattle.replay.specs.Places.{Inside, RecordFrom, CanFill, Behind, TurnAt, TurnsTo, PathWithin};
+ghost use Rattle.replay.specs.Places.{Inside, RecordFrom, CanFill, Behind, TurnAt, TurnsTo, EndsWithin};
 ghost use Rattle.replay.specs.Held.{AnsweredLeft, NextIs, Goes, GoesFitted, GoesOn, GoesOnAll};
 
 // The kinds of the calls.
@@ -41,13 +45,17 @@ const KEEP: u32 = 5;
 
 const BEST: u32 = 6;
 
+const ALTERNATIVES: u32 = 7;
+
 const RELATIVE: u32 = 9;
 
 const ACTIVE: u32 = 10;
 
 const FRAMES: u32 = 11;
 
-// The refusals of a full store of records, and of a full queue.
+// The refusals of an output that is too short, of a full store of records, and of a full queue.
+const TOO_SHORT: u32 = 11;
+
 const NO_RECORD: u32 = 13;
 
 const NO_PLACE: u32 = 14;
@@ -691,6 +699,9 @@ fn fit_apart(
     let mut gaps = gap_places();
     let mut queue = queue_places();
     let scratch = cost_places();
+    let keys = key_places();
+    let places = state_places();
+    let order = state_places();
     let mut eps = eps_places();
     let loan = loan_of(calls, r);
     let p = loan.places;
@@ -704,6 +715,9 @@ fn fit_apart(
         &mut gaps[..2 * n],
         &mut queue[..q],
         &scratch[..p],
+        &keys[..p],
+        &places[..p],
+        &order[..p],
         &mut eps[..p],
         offsets,
         ilabels,
@@ -754,6 +768,9 @@ fn with_stores(
     let mut gaps = gap_places();
     let mut queue = queue_places();
     let mut scratch = cost_places();
+    let mut keys = key_places();
+    let mut places = state_places();
+    let mut order = state_places();
     let mut eps = eps_places();
     let loan = loan_of(calls, r);
     let p = loan.places;
@@ -770,6 +787,9 @@ fn with_stores(
         &mut gaps[..2 * n],
         &mut queue[..q],
         &mut scratch[..p],
+        &mut keys[..p],
+        &mut places[..p],
+        &mut order[..p],
         &mut eps[..p],
         offsets,
         ilabels,
@@ -795,6 +815,9 @@ fn fit(
     gaps: &mut [f32],
     queue: &mut [u32],
     scratch: &mut [f32],
+    keys: &mut [u64],
+    places: &mut [u32],
+    order: &mut [u32],
     eps: &mut [u8],
     offsets: &[u32],
     ilabels: &[i32],
@@ -818,6 +841,9 @@ fn fit(
         gaps,
         queue,
         scratch,
+        keys,
+        places,
+        order,
         eps,
         offsets,
         ilabels,
@@ -843,6 +869,9 @@ fn fit(
             gaps,
             queue,
             scratch,
+            keys,
+            places,
+            order,
             eps,
             offsets,
             ilabels,
@@ -905,6 +934,9 @@ fn on_decoder(
     gaps: &mut [f32],
     queue: &mut [u32],
     scratch: &mut [f32],
+    keys: &mut [u64],
+    places: &mut [u32],
+    order: &mut [u32],
     eps: &[u8],
     offsets: &[u32],
     ilabels: &[i32],
@@ -918,7 +950,7 @@ fn on_decoder(
     pdfs: u32,
     decoder: Decoder,
 ) -> Stop
-    requires { ⌜ Held (graphTables (now offsets) (now ilabels) (now olabels) (now weights) (now nextstates) (now tid2pdf) (now tid2phone)) (lent (now tokens) (now sums) (now records) (now labels) (now gaps)) (now finals) (now eps) (length (now queue)) (length (now scratch)) decoder ⌝ }
+    requires { ⌜ Held (graphTables (now offsets) (now ilabels) (now olabels) (now weights) (now nextstates) (now tid2pdf) (now tid2phone)) (lent (now tokens) (now sums) (now records) (now labels) (now gaps)) (now finals) (now eps) (length (now queue)) (scratchOf (now scratch) (now keys) (now places) (now order)) decoder ⌝ }
     ensures { λ t. ⌜ Behind (now (calls .entry)) from t ⌝ }
 {
     let mut d = decoder;
@@ -955,6 +987,9 @@ fn on_decoder(
                             gaps,
                             queue,
                             scratch,
+                            keys,
+                            places,
+                            order,
                             eps,
                             offsets,
                             ilabels,
@@ -992,6 +1027,9 @@ fn answer(
     gaps: &mut [f32],
     queue: &mut [u32],
     scratch: &mut [f32],
+    keys: &mut [u64],
+    places: &mut [u32],
+    order: &mut [u32],
     eps: &[u8],
     offsets: &[u32],
     ilabels: &[i32],
@@ -1004,8 +1042,8 @@ fn answer(
     d: Decoder,
 ) -> Answered
     requires { ⌜ Inside (now calls) r ⌝ }
-    requires { ⌜ Held (graphTables (now offsets) (now ilabels) (now olabels) (now weights) (now nextstates) (now tid2pdf) (now tid2phone)) (lent (now tokens) (now sums) (now records) (now labels) (now gaps)) (now finals) (now eps) (length (now queue)) (length (now scratch)) d ⌝ }
-    ensures { λ t. ⌜ AnsweredLeft (graphTables (now (offsets .entry)) (now (ilabels .entry)) (now (olabels .entry)) (now (weights .entry)) (now (nextstates .entry)) (now (tid2pdf .entry)) (now (tid2phone .entry))) (lent (now (tokens .exit)) (now (sums .exit)) (now (records .exit)) (now (labels .exit)) (now (gaps .exit))) (now (finals .entry)) (now (eps .entry)) (length (now (queue .entry))) (length (now (scratch .entry))) t ⌝ }
+    requires { ⌜ Held (graphTables (now offsets) (now ilabels) (now olabels) (now weights) (now nextstates) (now tid2pdf) (now tid2phone)) (lent (now tokens) (now sums) (now records) (now labels) (now gaps)) (now finals) (now eps) (length (now queue)) (scratchOf (now scratch) (now keys) (now places) (now order)) d ⌝ }
+    ensures { λ t. ⌜ AnsweredLeft (graphTables (now (offsets .entry)) (now (ilabels .entry)) (now (olabels .entry)) (now (weights .entry)) (now (nextstates .entry)) (now (tid2pdf .entry)) (now (tid2phone .entry))) (lent (now (tokens .exit)) (now (sums .exit)) (now (records .exit)) (now (labels .exit)) (now (gaps .exit))) (now (finals .entry)) (now (eps .entry)) (length (now (queue .entry))) (scratchOf (now (scratch .entry)) (now (keys .entry)) (now (places .entry)) (now (order .entry))) t ⌝ }
 {
     if r.kind == START {
         return start_again(
@@ -1053,6 +1091,21 @@ fn answer(
     }
     if r.kind == KEEP {
         return keep(calls, r, loan, d);
+    }
+    if r.kind == ALTERNATIVES {
+        return alternatives(
+            calls,
+            r,
+            tokens,
+            sums,
+            records,
+            labels,
+            finals,
+            keys,
+            places,
+            order,
+            d,
+        );
     }
     read(calls, r, tokens, sums, records, labels, finals, d);
     Answered::Next(d)
@@ -1289,7 +1342,7 @@ fn answer_best(
     frames: &mut [u32],
     segments: &mut [u32],
 )
-    requires { ⌜ (FinalsLeft (now tokens) (now sums) (now records) (now labels) (now finals) d) × (length (now words) ≤ 8192) × (length (now segments) ≤ 24576) ⌝ }
+    requires { ⌜ FinalsLeft (now tokens) (now sums) (now records) (now labels) (now finals) d ⌝ }
 {
     let path = decoder::best_path(
         tokens,
@@ -1316,18 +1369,159 @@ fn best_shaped(calls: &[u32], r: Record) -> bool {
     word_at(calls, r.start) < 2
 }
 
-fn say_best(path: BestPath, words: &[i32], frames: &[u32], segments: &[u32])
-    requires { ⌜ (PathWithin (length (now words)) (length (now frames)) (length (now segments)) path) × (length (now words) ≤ 8192) × (length (now segments) ≤ 24576) ⌝ }
-{
+fn say_best(path: BestPath, words: &[i32], frames: &[u32], segments: &[u32]) {
     match path {
         BestPath::Refused(number) => say(BEST, number),
         BestPath::Nobody => say_word(BEST, 0),
         BestPath::Found(size, cost) => {
-            let n = size.words as usize;
-            let m = size.segments as usize;
-            say_path(cost, words, frames, n, segments, m);
+            let to = ends_of(size.words, size.segments);
+            say_head(BEST, 1, to);
+            say_path(cost, words, frames, segments, ends_of(0, 0), to);
         }
     }
+}
+
+// The payload of an alternatives call is whether finals are used, how many paths there are at most, and perhaps the lengths of the output. More than 64 paths are
+// refused, so that 64 entries are enough.
+fn alternatives(
+    calls: &[u32],
+    r: Record,
+    tokens: &[u32],
+    sums: &[f32],
+    records: &[u32],
+    labels: &[i32],
+    finals: &[f32],
+    keys: &mut [u64],
+    places: &mut [u32],
+    order: &mut [u32],
+    d: Decoder,
+) -> Answered
+    requires { ⌜ Inside (now calls) r ⌝ }
+    requires { ⌜ AlternativesLeft (now tokens) (now sums) (now records) (now labels) (now finals) (length (now keys) ∷ length (now places) ∷ length (now order) ∷ []) d ⌝ }
+    ensures { λ t. ⌜ NextIs d t ⌝ }
+{
+    if !alternatives_shaped(calls, r) {
+        say_fault(ALTERNATIVES);
+        return Answered::Next(d);
+    }
+    let e = least(asked(calls, r, 2, NO_LIMIT), 64);
+    let n = least(asked(calls, r, 3, NO_LIMIT), 16384);
+    let f = least(asked(calls, r, 4, NO_LIMIT), 16384);
+    let m = least(asked(calls, r, 5, NO_LIMIT), 16384);
+    let mut words = list_words();
+    let mut frames = list_frames();
+    let mut segments = list_segments();
+    let mut list = list_ends();
+    let mut costs = list_costs();
+    answer_alternatives(
+        calls,
+        r,
+        tokens,
+        sums,
+        records,
+        labels,
+        finals,
+        keys,
+        places,
+        order,
+        d,
+        &mut words[..n],
+        &mut frames[..f],
+        &mut segments[..3 * m],
+        &mut list[..2 * e],
+        &mut costs[..e],
+    )
+}
+
+fn answer_alternatives(
+    calls: &[u32],
+    r: Record,
+    tokens: &[u32],
+    sums: &[f32],
+    records: &[u32],
+    labels: &[i32],
+    finals: &[f32],
+    keys: &mut [u64],
+    places: &mut [u32],
+    order: &mut [u32],
+    d: Decoder,
+    words: &mut [i32],
+    frames: &mut [u32],
+    segments: &mut [u32],
+    list: &mut [u32],
+    costs: &mut [f32],
+) -> Answered
+    requires { ⌜ Inside (now calls) r ⌝ }
+    requires { ⌜ AlternativesLeft (now tokens) (now sums) (now records) (now labels) (now finals) (length (now keys) ∷ length (now places) ∷ length (now order) ∷ []) d ⌝ }
+    ensures { λ t. ⌜ NextIs d t ⌝ }
+{
+    let use_final = word_at(calls, r.start) == 1;
+    let max = word_at(calls, r.start + 1) as usize;
+    match decoder::alternatives(
+        tokens,
+        sums,
+        records,
+        labels,
+        finals,
+        d,
+        use_final,
+        max,
+        keys,
+        places,
+        order,
+        words,
+        frames,
+        segments,
+        list,
+        costs,
+    ) {
+        Listed::Refused(number) => say_unlisted(calls, r, number, d),
+        Listed::Paths(k) => {
+            say_paths(least(k, 64), words, frames, segments, list, costs);
+            Answered::Next(d)
+        }
+    }
+}
+
+fn alternatives_shaped(calls: &[u32], r: Record) -> bool {
+    if r.count < 2 {
+        return false;
+    }
+    if 6 < r.count {
+        return false;
+    }
+    word_at(calls, r.start) < 2
+}
+
+fn say_unlisted(calls: &[u32], r: Record, number: u32, d: Decoder) -> Answered
+    requires { ⌜ Inside (now calls) r ⌝ }
+    ensures { λ t. ⌜ NextIs d t ⌝ }
+{
+    if number == TOO_SHORT {
+        if !list_fits(calls, r, d.used as usize) {
+            say_fault(ALTERNATIVES);
+            return Answered::Over;
+        }
+    }
+    say(ALTERNATIVES, number);
+    Answered::Next(d)
+}
+
+// Whether the output is as long as asked for, or as long as so many paths of one word and one segment for each record can be.
+fn list_fits(calls: &[u32], r: Record, used: usize) -> bool
+    requires { ⌜ (Inside (now calls) r) × (used < 2 ^ 32) ⌝ }
+{
+    let max = least(word_at(calls, r.start + 1) as usize, 64);
+    if max * used <= 16384 {
+        return true;
+    }
+    if 16384 < asked(calls, r, 3, NO_LIMIT) {
+        return false;
+    }
+    if 16384 < asked(calls, r, 4, NO_LIMIT) {
+        return false;
+    }
+    asked(calls, r, 5, NO_LIMIT) <= 16384
 }
 
 // ---- reading
@@ -1370,6 +1564,15 @@ fn read_script(calls: &mut [u32]) -> usize
 // The word at a place, and 0 past the last one.
 fn word_at(calls: &[u32], at: usize) -> u32 {
     if at < calls.len() { calls[at] } else { 0 }
+}
+
+// The same as i32 and as f32.
+fn label_at(words: &[i32], at: usize) -> i32 {
+    if at < words.len() { words[at] } else { 0 }
+}
+
+fn cost_at(costs: &[f32], at: usize) -> f32 {
+    if at < costs.len() { costs[at] } else { 0.0 }
 }
 
 // The record that starts at a place.
@@ -1453,43 +1656,101 @@ fn say_refusal(kind: u32, why: Refusal) {
     }
 }
 
-// A path: its cost, n words with their frames, and m segments.
-fn say_path(cost: f32, words: &[i32], frames: &[u32], n: usize, segments: &[u32], m: usize)
-    requires { ⌜ (n ≤ 8192) × (m ≤ 8192) × (n ≤ length (now words)) × (n ≤ length (now frames)) × (3 * m ≤ length (now segments)) ⌝ }
-{
-    let mut out = [0u8; 163868];
-    let all = 7 + 2 * n + 3 * m;
-    script::put_word(&mut out, 0, BEST);
-    script::put_word(&mut out, 1, (all - 2) as u32);
-    script::put_word(&mut out, 2, 0);
-    script::put_word(&mut out, 3, 1);
-    script::put_word(&mut out, 4, script::bits_of(cost));
-    script::put_word(&mut out, 5, n as u32);
-    put_words(&mut out, words, frames, n);
-    script::put_word(&mut out, 6 + 2 * n, m as u32);
-    put_segments(&mut out, 7 + 2 * n, segments, m);
-    io::write_all(STDOUT_FILENO, &out[..4 * all]);
+// Where the words and the segments of the first paths end.
+struct Ends {
+    words: usize,
+    segments: usize,
 }
 
-// Puts each word and its frame behind the first six words.
-fn put_words(out: &mut [u8], words: &[i32], frames: &[u32], n: usize)
-    requires { ⌜ (n ≤ 8192) × (n ≤ length (now words)) × (n ≤ length (now frames)) ⌝ }
+fn ends_of(words: u32, segments: u32) -> Ends
+    ensures { λ t. ⌜ EndsWithin t ⌝ }
 {
+    Ends {
+        words: least(words as usize, 16384),
+        segments: least(segments as usize, 16384),
+    }
+}
+
+// Of the first i paths.
+fn ends_at(list: &[u32], i: usize) -> Ends
+    requires { ⌜ i ≤ 64 ⌝ }
+    ensures { λ t. ⌜ EndsWithin t ⌝ }
+{
+    if i == 0 {
+        return ends_of(0, 0);
+    }
+    ends_of(word_at(list, 2 * i - 2), word_at(list, 2 * i - 1))
+}
+
+// The answer of k paths: their number, then each.
+fn say_paths(k: usize, words: &[i32], frames: &[u32], segments: &[u32], list: &[u32], costs: &[f32])
+    requires { ⌜ k ≤ 64 ⌝ }
+{
+    say_head(ALTERNATIVES, k, ends_at(list, k));
     let mut i = 0;
-    while i < n {
-        script::put_word(out, 6 + 2 * i, script::word_of(words[i]));
-        script::put_word(out, 7 + 2 * i, frames[i]);
+    while i < k {
+        let from = ends_at(list, i);
+        let to = ends_at(list, i + 1);
+        say_path(cost_at(costs, i), words, frames, segments, from, to);
         i += 1;
     }
 }
 
-// Puts the three numbers of each segment.
-fn put_segments(out: &mut [u8], at: usize, segments: &[u32], m: usize)
-    requires { ⌜ (at ≤ 20000) × (m ≤ 8192) × (3 * m ≤ length (now segments)) ⌝ }
+// The head of an answer of k paths that end there.
+fn say_head(kind: u32, k: usize, to: Ends)
+    requires { ⌜ (k ≤ 64) × EndsWithin to ⌝ }
+{
+    let mut out = [0u8; 16];
+    script::put_word(&mut out, 0, kind);
+    script::put_word(
+        &mut out,
+        1,
+        (2 + 3 * k + 2 * to.words + 3 * to.segments) as u32,
+    );
+    script::put_word(&mut out, 2, 0);
+    script::put_word(&mut out, 3, k as u32);
+    io::write_all(STDOUT_FILENO, &out);
+}
+
+// A path: its cost, its words with their frames, and its segments. It has at most one of each for each record.
+fn say_path(cost: f32, words: &[i32], frames: &[u32], segments: &[u32], from: Ends, to: Ends)
+    requires { ⌜ EndsWithin from × EndsWithin to ⌝ }
+{
+    let n = least(less(to.words, from.words), 8192);
+    let m = least(less(to.segments, from.segments), 8192);
+    let mut out = [0u8; 163852];
+    script::put_word(&mut out, 0, script::bits_of(cost));
+    script::put_word(&mut out, 1, n as u32);
+    put_words(&mut out, words, frames, from.words, n);
+    script::put_word(&mut out, 2 + 2 * n, m as u32);
+    put_segments(&mut out, 3 + 2 * n, segments, from.segments, m);
+    io::write_all(STDOUT_FILENO, &out[..12 + 8 * n + 12 * m]);
+}
+
+// The difference, or 0.
+fn less(a: usize, b: usize) -> usize {
+    if b < a { a - b } else { 0 }
+}
+
+// Puts n words from a place on, each with its frame, behind the first two words.
+fn put_words(out: &mut [u8], words: &[i32], frames: &[u32], from: usize, n: usize)
+    requires { ⌜ (from ≤ 16384) × (n ≤ 8192) ⌝ }
+{
+    let mut i = 0;
+    while i < n {
+        script::put_word(out, 2 + 2 * i, script::word_of(label_at(words, from + i)));
+        script::put_word(out, 3 + 2 * i, word_at(frames, from + i));
+        i += 1;
+    }
+}
+
+// Puts the three numbers of each of m segments from a place on.
+fn put_segments(out: &mut [u8], at: usize, segments: &[u32], from: usize, m: usize)
+    requires { ⌜ (at ≤ 20000) × (from ≤ 16384) × (m ≤ 8192) ⌝ }
 {
     let mut i = 0;
     while i < 3 * m {
-        script::put_word(out, at + i, segments[i]);
+        script::put_word(out, at + i, word_at(segments, 3 * from + i));
         i += 1;
     }
 }
@@ -1583,6 +1844,18 @@ fn cost_places() -> [f32; 4096]
     [0.0; 4096]
 }
 
+fn key_places() -> [u64; 4096]
+    ensures { λ t. ⌜ 4096 ≡ length t ⌝ }
+{
+    [0; 4096]
+}
+
+fn state_places() -> [u32; 4096]
+    ensures { λ t. ⌜ 4096 ≡ length t ⌝ }
+{
+    [0; 4096]
+}
+
 fn eps_places() -> [u8; 4096]
     ensures { λ t. ⌜ 4096 ≡ length t ⌝ }
 {
@@ -1613,4 +1886,35 @@ fn path_segments() -> [u32; 24576]
     ensures { λ t. ⌜ 24576 ≡ length t ⌝ }
 {
     [0; 24576]
+}
+
+// For alternatives: two ends and a cost for each path.
+fn list_words() -> [i32; 16384]
+    ensures { λ t. ⌜ 16384 ≡ length t ⌝ }
+{
+    [0; 16384]
+}
+
+fn list_frames() -> [u32; 16384]
+    ensures { λ t. ⌜ 16384 ≡ length t ⌝ }
+{
+    [0; 16384]
+}
+
+fn list_segments() -> [u32; 49152]
+    ensures { λ t. ⌜ 49152 ≡ length t ⌝ }
+{
+    [0; 49152]
+}
+
+fn list_ends() -> [u32; 128]
+    ensures { λ t. ⌜ 128 ≡ length t ⌝ }
+{
+    [0; 128]
+}
+
+fn list_costs() -> [f32; 64]
+    ensures { λ t. ⌜ 64 ≡ length t ⌝ }
+{
+    [0.0; 64]
 }

@@ -1,6 +1,7 @@
 -- `listen::hear_frames` is safe and ends: between the frames it holds what the last one left.
 use mathlib.Core.Path.{refl, _∙_}
 use Prim.Native.Nat.{_-_, _≤_}
+use mathlib.Core.List.{[], _∷_, List·Memᴰ·head as here}
 use lib.ListN.{length}
 use Rattle.stores.specs.Rep.{lent}
 use Rattle.nonemitting.specs.Expand.{graphTables}
@@ -13,7 +14,7 @@ use Rattle.listen.proofs.hear_frames.Tie as tie
 
 abbrev Inv-loop : tie.InvT-loop
 Inv-loop tokens₀ sums₀ records₀ labels₀ gaps₀ queue₀ scratch₀ eps offsets ilabels olabels weights nextstates finals tid2pdf tid2phone d₀ i₀ tokens sums records labels gaps queue scratch d i =
-    (i ≤ 8) × Held (graphTables offsets ilabels olabels weights nextstates tid2pdf tid2phone) (lent tokens sums records labels gaps) finals eps (length queue) (length scratch) d × AsLong tokens₀ tokens sums₀ sums records₀ records labels₀ labels gaps₀ gaps queue₀ queue scratch₀ scratch
+    (i ≤ 8) × Held (graphTables offsets ilabels olabels weights nextstates tid2pdf tid2phone) (lent tokens sums records labels gaps) finals eps (length queue) (length scratch ∷ []) d × AsLong tokens₀ tokens sums₀ sums records₀ records labels₀ labels gaps₀ gaps queue₀ queue scratch₀ scratch
 
 abbrev μ-loop : tie.MeasureT-loop
 μ-loop tokens₀ sums₀ records₀ labels₀ gaps₀ queue₀ scratch₀ eps offsets ilabels olabels weights nextstates finals tid2pdf tid2phone d₀ i₀ tokens sums records labels gaps queue scratch d i =
@@ -29,7 +30,7 @@ slice-aggregate-frame : tie.Need-slice-aggregate-frame Inv-loop μ-loop
 slice-aggregate-frame c = search needs
 
 frame-requires : tie.Need-frame-requires Inv-loop μ-loop
-frame-requires c κs = frame-left _ (c .before .before .before .before .before .before .before .before .before .before .loop .inv .1)
+frame-requires c κs = frame-left _ _ (here refl) (c .before .before .before .before .before .before .before .before .before .before .loop .inv .1)
 
 enum-known-next : tie.Need-enum-known-next Inv-loop μ-loop
 enum-known-next c = search needs

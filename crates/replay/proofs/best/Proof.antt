@@ -1,8 +1,6 @@
 -- `replay::best` is safe: what is lent lies within the places.
 use mathlib.Core.Path.{sym}
-use Prim.Native.Nat.{_*_}
 use lib.Seq.{length-take-le}
-use Rattle.replay.specs.Places.{take-within}
 use borrow.Author.Needs.{needs}
 use native.Mathlib.Omega.{arith}
 use Rattle.replay.proofs.best.Statement.{statement}
@@ -69,34 +67,10 @@ slice-aggregate-answer-best-3 : tie.Need-slice-aggregate-answer-best-3
 slice-aggregate-answer-best-3 c = sym (length-take-le _ _ (omega (arith, c .before .before .before .before .before .before .least3 .ensures, c .before .before .before .path-segments .ensures)))
 
 answer-best-requires : tie.Need-answer-best-requires
-answer-best-requires c κs = (c .before .before .before .before .before .before .before .before .before .before .before .before .before .before .before .before .before .before .before .before .pre .1, take-within (c .before .before .before .before .before .before .before .before .before .before .least .result) 8192 _ (c .before .before .before .before .before .before .before .before .before .before .least .ensures) (omega (arith, c .before .before .before .before .before .before .before .before .before .before .least .ensures, c .before .before .before .before .before .path-words .ensures)), take-within (3 * c .before .before .before .before .before .before .least3 .result) 24576 _ (omega (arith, c .before .before .before .before .before .before .least3 .ensures)) (omega (arith, c .before .before .before .before .before .before .least3 .ensures, c .before .before .before .path-segments .ensures)))
+answer-best-requires c κs = c .before .before .before .before .before .before .before .before .before .before .before .before .before .before .before .before .before .before .before .before .pre .1
 
 returns-2 : tie.Need-returns-2
 returns-2 c = search needs
 
 pub best-spec : {M : Type 1} → statement M
-best-spec =
-    tie.close
-    (tie.spec
-    best-shaped-requires
-    say-fault-requires
-    returns
-    word-at-requires
-    asked-requires
-    least-requires
-    asked-requires-2
-    least-requires-2
-    asked-requires-3
-    least-requires-3
-    path-words-requires
-    path-frames-requires
-    path-segments-requires
-    array-borrow-prefix-words
-    slice-aggregate-answer-best
-    array-borrow-prefix-frames
-    slice-aggregate-answer-best-2
-    mul-segments
-    array-borrow-prefix-segments
-    slice-aggregate-answer-best-3
-    answer-best-requires
-    returns-2)
+best-spec = tie.close (tie.spec best-shaped-requires say-fault-requires returns word-at-requires asked-requires least-requires asked-requires-2 least-requires-2 asked-requires-3 least-requires-3 path-words-requires path-frames-requires path-segments-requires array-borrow-prefix-words slice-aggregate-answer-best array-borrow-prefix-frames slice-aggregate-answer-best-2 mul-segments array-borrow-prefix-segments slice-aggregate-answer-best-3 answer-best-requires returns-2)

@@ -27,6 +27,15 @@ queue-places-requires c κs = search needs
 cost-places-requires : tie.Need-cost-places-requires
 cost-places-requires c κs = search needs
 
+key-places-requires : tie.Need-key-places-requires
+key-places-requires c κs = search needs
+
+state-places-requires : tie.Need-state-places-requires
+state-places-requires c κs = search needs
+
+state-places-requires-2 : tie.Need-state-places-requires-2
+state-places-requires-2 c κs = search needs
+
 eps-places-requires : tie.Need-eps-places-requires
 eps-places-requires c κs = search needs
 
@@ -40,7 +49,7 @@ array-borrow-prefix-tokens : tie.Need-array-borrow-prefix-tokens
 array-borrow-prefix-tokens c = search needs
 
 slice-aggregate-fit : tie.Need-slice-aggregate-fit
-slice-aggregate-fit c = sym (length-take-le _ _ (omega (arith, c .before .loan-of .ensures .0, c .before .before .before .before .before .before .before .before .before .token-places .ensures)))
+slice-aggregate-fit c = sym (length-take-le _ _ (omega (arith, c .before .loan-of .ensures .0, c .before .before .before .before .before .before .before .before .before .before .before .before .token-places .ensures)))
 
 mul-sums : tie.Need-mul-sums
 mul-sums c = search needs
@@ -49,7 +58,7 @@ array-borrow-prefix-sums : tie.Need-array-borrow-prefix-sums
 array-borrow-prefix-sums c = search needs
 
 slice-aggregate-fit-2 : tie.Need-slice-aggregate-fit-2
-slice-aggregate-fit-2 c = sym (length-take-le _ _ (omega (arith, c .before .before .loan-of .ensures .0, c .before .before .before .before .before .before .before .before .before .sum-places .ensures)))
+slice-aggregate-fit-2 c = sym (length-take-le _ _ (omega (arith, c .before .before .loan-of .ensures .0, c .before .before .before .before .before .before .before .before .before .before .before .before .sum-places .ensures)))
 
 mul-records : tie.Need-mul-records
 mul-records c = search needs
@@ -58,7 +67,7 @@ array-borrow-prefix-records : tie.Need-array-borrow-prefix-records
 array-borrow-prefix-records c = search needs
 
 slice-aggregate-fit-3 : tie.Need-slice-aggregate-fit-3
-slice-aggregate-fit-3 c = sym (length-take-le _ _ (omega (arith, c .before .before .before .loan-of .ensures .1, c .before .before .before .before .before .before .before .before .before .record-places .ensures)))
+slice-aggregate-fit-3 c = sym (length-take-le _ _ (omega (arith, c .before .before .before .loan-of .ensures .1, c .before .before .before .before .before .before .before .before .before .before .before .before .record-places .ensures)))
 
 mul-labels : tie.Need-mul-labels
 mul-labels c = search needs
@@ -67,7 +76,7 @@ array-borrow-prefix-labels : tie.Need-array-borrow-prefix-labels
 array-borrow-prefix-labels c = search needs
 
 slice-aggregate-fit-4 : tie.Need-slice-aggregate-fit-4
-slice-aggregate-fit-4 c = sym (length-take-le _ _ (omega (arith, c .before .before .before .before .loan-of .ensures .1, c .before .before .before .before .before .before .before .before .before .word-places .ensures)))
+slice-aggregate-fit-4 c = sym (length-take-le _ _ (omega (arith, c .before .before .before .before .loan-of .ensures .1, c .before .before .before .before .before .before .before .before .before .before .before .before .word-places .ensures)))
 
 mul-gaps : tie.Need-mul-gaps
 mul-gaps c = search needs
@@ -76,25 +85,43 @@ array-borrow-prefix-gaps : tie.Need-array-borrow-prefix-gaps
 array-borrow-prefix-gaps c = search needs
 
 slice-aggregate-fit-5 : tie.Need-slice-aggregate-fit-5
-slice-aggregate-fit-5 c = sym (length-take-le _ _ (omega (arith, c .before .before .before .before .before .loan-of .ensures .1, c .before .before .before .before .before .before .before .before .before .gap-places .ensures)))
+slice-aggregate-fit-5 c = sym (length-take-le _ _ (omega (arith, c .before .before .before .before .before .loan-of .ensures .1, c .before .before .before .before .before .before .before .before .before .before .before .before .gap-places .ensures)))
 
 array-borrow-prefix-queue : tie.Need-array-borrow-prefix-queue
 array-borrow-prefix-queue c = search needs
 
 slice-aggregate-fit-6 : tie.Need-slice-aggregate-fit-6
-slice-aggregate-fit-6 c = sym (length-take-le _ _ (omega (arith, c .before .before .before .before .before .before .loan-of .ensures .2, c .before .before .before .before .before .before .before .before .before .queue-places .ensures)))
+slice-aggregate-fit-6 c = sym (length-take-le _ _ (omega (arith, c .before .before .before .before .before .before .loan-of .ensures .2, c .before .before .before .before .before .before .before .before .before .before .before .before .queue-places .ensures)))
 
 array-share-prefix-scratch : tie.Need-array-share-prefix-scratch
 array-share-prefix-scratch c = search needs
 
 slice-aggregate-fit-7 : tie.Need-slice-aggregate-fit-7
-slice-aggregate-fit-7 c = sym (length-take-le _ _ (omega (arith, c .before .before .before .before .before .before .before .loan-of .ensures .0, c .before .before .before .before .before .before .before .before .before .cost-places .ensures)))
+slice-aggregate-fit-7 c = sym (length-take-le _ _ (omega (arith, c .before .before .before .before .before .before .before .loan-of .ensures .0, c .before .before .before .before .before .before .before .before .before .before .before .before .cost-places .ensures)))
+
+array-share-prefix-keys : tie.Need-array-share-prefix-keys
+array-share-prefix-keys c = search needs
+
+slice-aggregate-fit-8 : tie.Need-slice-aggregate-fit-8
+slice-aggregate-fit-8 c = sym (length-take-le _ _ (omega (arith, c .before .before .before .before .before .before .before .before .loan-of .ensures .0, c .before .before .before .before .before .before .before .before .before .before .before .before .key-places .ensures)))
+
+array-share-prefix-places : tie.Need-array-share-prefix-places
+array-share-prefix-places c = search needs
+
+slice-aggregate-fit-9 : tie.Need-slice-aggregate-fit-9
+slice-aggregate-fit-9 c = sym (length-take-le _ _ (omega (arith, c .before .before .before .before .before .before .before .before .before .loan-of .ensures .0, c .before .before .before .before .before .before .before .before .before .before .before .before .state-places .ensures)))
+
+array-share-prefix-order : tie.Need-array-share-prefix-order
+array-share-prefix-order c = search needs
+
+slice-aggregate-fit-10 : tie.Need-slice-aggregate-fit-10
+slice-aggregate-fit-10 c = sym (length-take-le _ _ (omega (arith, c .before .before .before .before .before .before .before .before .before .before .loan-of .ensures .0, c .before .before .before .before .before .before .before .before .before .before .before .before .state-places2 .ensures)))
 
 array-borrow-prefix-eps : tie.Need-array-borrow-prefix-eps
 array-borrow-prefix-eps c = search needs
 
-slice-aggregate-fit-8 : tie.Need-slice-aggregate-fit-8
-slice-aggregate-fit-8 c = sym (length-take-le _ _ (omega (arith, c .before .before .before .before .before .before .before .before .loan-of .ensures .0, c .before .before .before .before .before .before .before .before .before .eps-places .ensures)))
+slice-aggregate-fit-11 : tie.Need-slice-aggregate-fit-11
+slice-aggregate-fit-11 c = sym (length-take-le _ _ (omega (arith, c .before .before .before .before .before .before .before .before .before .before .before .loan-of .ensures .0, c .before .before .before .before .before .before .before .before .before .before .before .before .eps-places .ensures)))
 
 config-of-requires : tie.Need-config-of-requires
 config-of-requires c κs = search needs
@@ -109,40 +136,4 @@ returns : tie.Need-returns
 returns c = search needs
 
 pub fit-apart-spec : {M : Type 1} → statement M
-fit-apart-spec =
-    tie.close
-    (tie.spec
-    token-places-requires
-    sum-places-requires
-    record-places-requires
-    word-places-requires
-    gap-places-requires
-    queue-places-requires
-    cost-places-requires
-    eps-places-requires
-    loan-of-requires
-    mul-tokens
-    array-borrow-prefix-tokens
-    slice-aggregate-fit
-    mul-sums
-    array-borrow-prefix-sums
-    slice-aggregate-fit-2
-    mul-records
-    array-borrow-prefix-records
-    slice-aggregate-fit-3
-    mul-labels
-    array-borrow-prefix-labels
-    slice-aggregate-fit-4
-    mul-gaps
-    array-borrow-prefix-gaps
-    slice-aggregate-fit-5
-    array-borrow-prefix-queue
-    slice-aggregate-fit-6
-    array-share-prefix-scratch
-    slice-aggregate-fit-7
-    array-borrow-prefix-eps
-    slice-aggregate-fit-8
-    config-of-requires
-    fit-requires
-    say-unfit-requires
-    returns)
+fit-apart-spec = tie.close (tie.spec token-places-requires sum-places-requires record-places-requires word-places-requires gap-places-requires queue-places-requires cost-places-requires key-places-requires state-places-requires state-places-requires-2 eps-places-requires loan-of-requires mul-tokens array-borrow-prefix-tokens slice-aggregate-fit mul-sums array-borrow-prefix-sums slice-aggregate-fit-2 mul-records array-borrow-prefix-records slice-aggregate-fit-3 mul-labels array-borrow-prefix-labels slice-aggregate-fit-4 mul-gaps array-borrow-prefix-gaps slice-aggregate-fit-5 array-borrow-prefix-queue slice-aggregate-fit-6 array-share-prefix-scratch slice-aggregate-fit-7 array-share-prefix-keys slice-aggregate-fit-8 array-share-prefix-places slice-aggregate-fit-9 array-share-prefix-order slice-aggregate-fit-10 array-borrow-prefix-eps slice-aggregate-fit-11 config-of-requires fit-requires say-unfit-requires returns)
