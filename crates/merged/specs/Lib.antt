@@ -1,0 +1,8 @@
+-- One list of own groups and kept readings, and its laws.
+pub mod Merge
+pub mod Items
+pub mod Steps
+pub mod Bound
+pub mod Twins
+pub mod Drops
+pub mod Left
