@@ -9,8 +9,9 @@ use lib.ListN.{length, getD, take, drop, length-append, length-drop, drop-of-len
 use lib.Seq.{take-nil, length-take-le, getD-take, getD-drop}
 use lib.Ieee.{Float}
 use Rattle.lists.specs.Tests.{case, holds, fails, is-true, is-false}
-use Rattle.lists.specs.Lists.{_∈_, any, keepIf, insertBy, sortBy, firsts}
-use Rattle.lists.specs.Members.{sort-from, drop-next, member-at}
+use Rattle.lists.specs.Lists.{_∈_, any, keepIf, sortBy, firsts}
+use Rattle.lists.specs.Members.{drop-next, member-at}
+use Rattle.lists.specs.Order.{sort-first, sort-behind}
 use Rattle.real32.specs.Order.{le-real-l, le-trans, lt-le-trans, not-lt→le, lt-not-le}
 use Rattle.model.specs.Basics.{_≺_, _≼_}
 use Rattle.entries.specs.declared.Entry.{Entry}
@@ -38,19 +39,6 @@ module _ {A : Type 0} where
   keep-front p [] d n h t f = sym (take-nil n)
   keep-front p (x ∷ xs) d zero h t f = keep-none p (x ∷ xs) d (λ i l. f i (omega arith) l)
   keep-front p (x ∷ xs) d (suc n) h t f = rw (t 0 (omega arith)) (ap (λ (l : List A). x ∷ l) (keep-front p xs d n (omega arith) (λ i l. t (suc i) (omega arith)) (λ i u l. f (suc i) (omega arith) (omega arith))))
-
-  -- one that none stands before comes first
-  insert-front : (before : A → A → Bool) (x : A) (xs : List A) → ((y : A) → y ∈ xs → before y x ≡ false) → insertBy before x xs ≡ x ∷ xs
-  insert-front before x [] f = refl
-  insert-front before x (y ∷ xs) f = rw (f y (here refl))
-
-  sort-front : (before : A → A → Bool) (x : A) (xs : List A) → ((y : A) → y ∈ xs → before y x ≡ false) → sortBy before (x ∷ xs) ≡ x ∷ sortBy before xs
-  sort-front before x xs f = insert-front before x (sortBy before xs) (λ y m. f y (sort-from before xs y m))
-
-  -- also from behind others, if it stands before each of them
-  sort-past : (before : A → A → Bool) (xs : List A) (y : A) (ys : List A) → ((x : A) → x ∈ xs → before y x ≡ true) → ((z : A) → z ∈ ys → before z y ≡ false) → sortBy before (xs ++ y ∷ ys) ≡ y ∷ sortBy before (xs ++ ys)
-  sort-past before [] y ys t f = sort-front before y ys f
-  sort-past before (x ∷ xs) y ys t f = ap (insertBy before x) (sort-past before xs y ys (λ z m. t z (there m)) f) ∙ rw (t x (here refl)) refl
 
   -- ---- the list that is filled: so many at most of what is new in the rest
 
@@ -132,7 +120,7 @@ module _ (os ks : List Entry) (ro : Rising os) (rk : Rising ks) (i j : ℕ) wher
   pub own-first : i < length os → (j < length ks → cheaper (getD ks j noEntry) (getD os i noEntry) ≡ false) → rest os ks i j ≡ getD os i noEntry ∷ rest os ks (i + 1) j
   own-first l h =
       ap (λ (ys : List Entry). sortBy cheaper (ys ++ drop j ks)) (drop-next os i noEntry l)
-      ∙ sort-front cheaper x (drop (i + 1) os ++ drop j ks) (λ y m. case (List·Memᴰ·append-cases (drop (i + 1) os) m) (λ k. not-cheaper y x (rising-past os ro i l y k)) (λ k. not-cheaper y x (beside y k)))
+      ∙ sort-first cheaper x (drop (i + 1) os ++ drop j ks) (λ y m. case (List·Memᴰ·append-cases (drop (i + 1) os) m) (λ k. not-cheaper y x (rising-past os ro i l y k)) (λ k. not-cheaper y x (beside y k)))
     where
       x : Entry
       x = getD os i noEntry
@@ -146,7 +134,7 @@ module _ (os ks : List Entry) (ro : Rising os) (rk : Rising ks) (i j : ℕ) wher
   pub kept-first : j < length ks → (i < length os → cheaper (getD ks j noEntry) (getD os i noEntry) ≡ true) → rest os ks i j ≡ getD ks j noEntry ∷ rest os ks i (j + 1)
   kept-first l h =
       ap (λ (ys : List Entry). sortBy cheaper (drop i os ++ ys)) (drop-next ks j noEntry l)
-      ∙ sort-past cheaper (drop i os) y (drop (j + 1) ks) (λ x m. let (u, v) = rising-from os ro i x m in is-true (lt-le-trans (y .cost) (getD os i noEntry .cost) (x .cost) (holds (h u)) v)) (λ z m. not-cheaper z y (rising-past ks rk j l z m))
+      ∙ sort-behind cheaper (drop i os) y (drop (j + 1) ks) (λ x m. let (u, v) = rising-from os ro i x m in is-true (lt-le-trans (y .cost) (getD os i noEntry .cost) (x .cost) (holds (h u)) v)) (λ z m. not-cheaper z y (rising-past ks rk j l z m))
     where
       y : Entry
       y = getD ks j noEntry

@@ -1,7 +1,6 @@
 -- What the contracts of the order of kept readings cite, and its laws.
 pub mod Before
 pub mod Asks
-pub mod Lex
 pub mod Words
 pub mod Strict
 pub mod Filling

@@ -3,6 +3,8 @@ pub mod Tests
 pub mod Lists
 pub mod Members
 pub mod Order
+pub mod Lex
+pub mod Merge
 pub mod Firsts
 pub mod Count
 pub mod Sets

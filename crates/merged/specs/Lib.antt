@@ -1,5 +1,4 @@
 -- One list of own groups and kept readings, and its laws.
-pub mod Merge
 pub mod Items
 pub mod Steps
 pub mod Bound
