@@ -117,7 +117,7 @@ module _ (h : Here) (p : Pass) (fs : List Heard) (good : GoodGraph (h .graph)) (
       (with-loser (λ x. x .seq ≡ held .seq) h (suc (w .fresh)) won held u j refl refl)
       (with-loser (Sound g fs′ (v .fresh) (a .target)) h (suc (w .fresh)) won held u j (sound-more g fs′ (suc (w .fresh)) (v .fresh) (a .target) won (omega arith) sw)
       (sound-more g fs′ (suc (suc (w .fresh))) (v .fresh) (a .target) _ (omega arith)
-      (join-sound h fs′ (a .target) (suc (w .fresh)) (suc (w .fresh)) won held (omega arith) sw l (sound-more g fs′ (w .fresh) (suc (w .fresh)) (a .target) held (omega arith) sh) (lt→le (won .cost) (held .cost) (holds b)))))
+      (join-sound h fs′ (a .target) (suc (w .fresh)) (suc (w .fresh)) won held (omega arith) (omega arith) sw l (sound-more g fs′ (w .fresh) (suc (w .fresh)) (a .target) held (omega arith) sh) (lt→le (won .cost) (held .cost) (holds b)))))
       (with-loser (λ x. tame (x .graph) ≡ true) h (suc (w .fresh)) won held u j l l) (omega arith) (sym q)
   came-active w v d light o (cameDropped c held e b f q r) = let n = c .fresh in active-same g (heardBy p fs) (w .table) (v .table) (w .seq) (v .seq) (w .fresh) (v .fresh) f q (omega arith) o
   came-active w v d light o (cameJoined c held e b f q r) =
@@ -128,6 +128,6 @@ module _ (h : Here) (p : Pass) (fs : List Heard) (good : GoodGraph (h .graph)) (
       let sh = o .sound (a .target) held e in
       over-active g fs′ (w .table) (v .table) (a .target) _ f (w .seq) (v .seq) (w .fresh) (v .fresh) o held e refl
       (sound-more g fs′ (suc (suc (w .fresh))) (v .fresh) (a .target) _ (omega arith)
-      (join-sound h fs′ (a .target) (suc (w .fresh)) (suc (w .fresh)) held lost (omega arith) (sound-more g fs′ (w .fresh) (suc (w .fresh)) (a .target) held (omega arith) sh) (o .light (a .target) held e) sl
+      (join-sound h fs′ (a .target) (suc (w .fresh)) (suc (w .fresh)) held lost (omega arith) (omega arith) (sound-more g fs′ (w .fresh) (suc (w .fresh)) (a .target) held (omega arith) sh) (o .light (a .target) held e) sl
       (not-lt→le (lost .cost) (held .cost) (tame-real (lost .cost) (holds (c .small))) (tame-real (held .cost) (holds (sh .sums .cost-tame))) (fails b))))
       (o .light (a .target) held e) (omega arith) (sym q)

@@ -46,7 +46,7 @@ module _ (finals : Bool) (margin : Float) (up : T (0f ≼ margin)) (low : T (mar
   share-of : Few (length (b .route)) → T (small 126 (share ⊗ b .graph))
   share-of few = let n = length (b .route) in atMost-mono (n * 2 ^ 102) (2 ^ 126) (share ⊗ b .graph) (mul-le-mul-right (2 ^ 102) (le-of-lt few)) (atMost-mul binary32 (n * 2 ^ 102) share (b .graph) (fits-steps n few) share-small (d .graph-small few))
 
-  kept-sure : SureReading (keptGroup (keptOf finals r b))
+  pub kept-sure : SureReading (keptGroup (keptOf finals r b))
   unfolding keptOf
   kept-sure =
       let x = r .rank ⊕ b .cost in
@@ -66,7 +66,7 @@ unfolding fair
 fair-margin g fs st h margin e = let z = and-both (0f ≼ margin) (margin ≺ huge) (sym (ap fairMargin e) ∙ h .margin) in (holds (z .0), holds (z .1))
 
 module _ (g : Graph) (good : GoodGraph g) (floats : Floats32 g) (fs : List Heard) (st : State) (h : Standing g fs st) (f : Bool) where
-  own-sure : (x : Group) → x ∈ grouped g st f → SureReading x
+  pub own-sure : (x : Group) → x ∈ grouped g st f → SureReading x
   own-sure x m =
       let (r, n, e) = grouped-own g st f x m in
       let s = ranked-sure g good floats fs st (h .active) f r n in

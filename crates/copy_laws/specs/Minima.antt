@@ -84,7 +84,7 @@ module _ {A K : Type 0} (key : A → K) (alike : K → K → Bool) (alike-is : (
 
   module _ (before : A → A → Bool) (P : A → Type 0) (strict : Strict P before) where
     -- the first of each key of a sorted list
-    first-least : (seen xs : List A) → Sorted before xs → ((x : A) → x ∈ xs → P x) → (y : A) → y ∈ firsts sameKeyed seen xs → (x : A) → x ∈ xs → key x ≡ key y → before x y ≡ false
+    pub first-least : (seen xs : List A) → Sorted before xs → ((x : A) → x ∈ xs → P x) → (y : A) → y ∈ firsts sameKeyed seen xs → (x : A) → x ∈ xs → key x ≡ key y → before x y ≡ false
     first-least seen (z ∷ xs) s ps y m x n e = go (any (sameKeyed z) seen) refl m n (first-least seen xs (s .1) (λ w k. ps w (there k)) y) (first-least (z ∷ seen) xs (s .1) (λ w k. ps w (there k)) y)
       where
         Rest : List A → Type 0

@@ -55,7 +55,7 @@ Marked g (branchOn m k p) = Marked g k × Marked g p
 
 -- ---- branches
 
--- The kept path and the winner's lead to one state, over the first of these frames; the branch has what the kept one costs over the other.
+-- The kept path and the winner's lead to one state, over the first of these frames; the branch has a number other than 0, and what the kept one costs over the other.
 pub record Fork (g : Graph) (fs : List Heard) (m : Merge) (k p : Path) : Type 0 where
   pub frames : List Heard
   pub later : List Heard
@@ -63,6 +63,7 @@ pub record Fork (g : Graph) (fs : List Heard) (m : Merge) (k p : Path) : Type 0 
   pub end : ℕ
   pub kept : Walks g frames k end
   pub won : Walks g frames p end
+  pub numbered : 0 < m .number
   pub cost : m .cost ≡ sumOf g frames (arcs k) ⊖ sumOf g frames (arcs p)
   pub graph : m .graph ≡ weightsOf (arcs k) ⊖ weightsOf (arcs p)
   pub small : Difference m
@@ -74,7 +75,7 @@ Forks g fs (branchOn m k p) = Fork g fs m k p × Forks g fs k × Forks g fs p
 
 fork-more : (g : Graph) (fs more : List Heard) (m : Merge) (k p : Path) → Fork g fs m k p → Fork g (fs ++ more) m k p
 fork-more g fs more m k p b =
-    record { frames = b .frames; later = b .later ++ more; first = sym (append-assoc (b .frames) (b .later) more) ∙ ap (λ (l : List Heard). l ++ more) (b .first); end = b .end; kept = b .kept; won = b .won; cost = b .cost; graph = b .graph; small = b .small }
+    record { frames = b .frames; later = b .later ++ more; first = sym (append-assoc (b .frames) (b .later) more) ∙ ap (λ (l : List Heard). l ++ more) (b .first); end = b .end; kept = b .kept; won = b .won; numbered = b .numbered; cost = b .cost; graph = b .graph; small = b .small }
 
 pub forks-more : (g : Graph) (fs more : List Heard) (p : Path) → Forks g fs p → Forks g (fs ++ more) p
 forks-more g fs more emptyPath b = tt

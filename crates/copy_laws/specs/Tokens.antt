@@ -115,9 +115,9 @@ module _ (h : Here) (p : Pass) (fs : List Heard) (good : GoodGraph (h .graph)) (
 
 -- ---- a join
 
-pub join-sound : (h : Here) (fs : List Heard) (s f n : ℕ) (won lost : Token) → f ≤ n → Sound (h .graph) fs f s won → tame (won .graph) ≡ true → Sound (h .graph) fs f s lost → T (won .cost ≼ lost .cost) → Sound (h .graph) fs (suc n) s (joined h n won lost)
+pub join-sound : (h : Here) (fs : List Heard) (s f n : ℕ) (won lost : Token) → f ≤ n → 0 < n → Sound (h .graph) fs f s won → tame (won .graph) ≡ true → Sound (h .graph) fs f s lost → T (won .cost ≼ lost .cost) → Sound (h .graph) fs (suc n) s (joined h n won lost)
 unfolding joined along
-join-sound h fs s f n won lost le w light l up =
+join-sound h fs s f n won lost le new w light l up =
     record {
       walks = λ route. either-way route (memℕ n route);
       cost = w .cost;
@@ -134,6 +134,7 @@ join-sound h fs s f n won lost le w light l up =
           end = s;
           kept = l .walks;
           won = w .walks;
+          numbered = new;
           cost = ap₂ _⊖_ (l .cost) (w .cost);
           graph = ap₂ _⊖_ (l .graph) (w .graph);
           small = difference _ won lost refl refl (w .sums) light (l .sums) up;
