@@ -155,6 +155,7 @@ module _ (rs : List ℕ) (ls : List ℤ) (gs : List Float) (used : ℕ) (margin 
             is = λ h links F.
                 wasFull
                 (progress-full (F .stands) margin cap links (F .links-low) (isWanted lists₀) (F .only) (F .all) (D .is h links F) few want (L .own-way .way) (L .kept-way .way) (F .small) (L .fill) e);
+            short = λ d. absurd (d refl);
           }
 
       short-new : (n ≡ 0 → ⊥) → (e : ℕ) → free ≤ e → e < n → entryAt hs' ns' xs' e .len ≤ suc r
@@ -198,6 +199,7 @@ module _ (rs : List ℕ) (ls : List ℤ) (gs : List Float) (used : ℕ) (margin 
       record {
         is = λ h links F.
             progress-all (F .stands) margin cap links (F .links-low) (isWanted lists₀) (F .only) (F .all) (subst (λ (k : ℕ). Progress h used margin cap (isWanted lists₀) lists hs ns xs places k free) e (D .is h links F));
+        short = λ d. D .short;
       }
 
 -- ---- from the marks to the lists
@@ -264,7 +266,7 @@ module _ {tk rs : List ℕ} {ls : List ℤ} {gs : List Float} {b used : ℕ} {he
     fair h ok = record { stands = ok; links-low = low; small = small; only = wanted-only h ok cap low; all = wanted-all h ok cap low }
 
     pub below-is : {lists hs ns : List ℕ} {xs : List Float} {places r : ℕ} → ListsAre rs ls gs used margin cap l₃ lists hs ns xs places r → BelowIs rs ls gs used margin cap (headLinks tk b heads n) lists hs ns xs places r
-    below-is L = record { is = λ h ok. L .is h (headLinks tk b heads n) (fair h ok) }
+    below-is L = record { is = λ h ok. L .is h (headLinks tk b heads n) (fair h ok); short = L .short }
 
     -- what filling the lists asks
     pub lists-ask : (h : ℕ → History) → Stands (store rs ls gs) used h → Walkable rs ls used → used * 2 ≤ length gs → used * 2 ≤ length l₃ → {hs ns : List ℕ} {xs : List Float} {places : ℕ} → Room hs ns xs places → places < 2 ^ 31 - 2

@@ -18,6 +18,7 @@ use Rattle.traceback.specs.Chain.{Walkable}
 use Rattle.entries.specs.Entries.{Room}
 use Rattle.below.specs.Lists.{belowOf, visitedOf}
 use Rattle.below.specs.Stored.{Decoded, listAt}
+use Rattle.below.specs.Short.{Short}
 
 -- the joins that are visited below these histories
 abbrev pub visitedBelow : (margin : Float) → (cap : ℕ) → List History → List (ℕ × ℕ)
@@ -55,3 +56,5 @@ pub data Outcome (h : ℕ → History) (used : ℕ) (margin : Float) (cap : ℕ)
 -- the definition's lists, whatever histories the records stand for
 pub record BelowIs (rs : List ℕ) (ls : List ℤ) (gs : List Float) (used : ℕ) (margin : Float) (cap : ℕ) (links lists hs ns : List ℕ) (xs : List Float) (places r : ℕ) : Type 0 where
   pub is : (h : ℕ → History) → Stands (store rs ls gs) used h → Outcome h used margin cap links lists hs ns xs places r
+  -- a list's entries are among those put, and each has at most as many words as its join has records before it
+  pub short : (r ≡ 0 → ⊥) → Short lists hs ns xs used r

@@ -1,5 +1,5 @@
 -- A record adds at most one word: so how many words there can be. Assumes nothing.
-use mathlib.Core.Path.{_≡_}
+use mathlib.Core.Path.{_≡_, refl, ap}
 use Prim.Native.Nat.{ℕ, zero, suc, _-_, _≤_, _<_}
 use native.Mathlib.Omega.{arith}
 use mathlib.Core.Bool.{Bool, true, false, cond}
@@ -49,6 +49,26 @@ deep-len margin cap n x d b m =
       kept = λ m f x k t b q e r n d. let z = r (d .0 .0) (d .0 .2) in let y = d .0 .1 in let v = on-top-len (x .word) b in omega arith;
     }) x b m n d
 
+pub on-top-route : (w : ℤ) (b : Below) → onTop w b .route ≡ b .route
+unfolding onTop
+on-top-route w b = go (nonzero w)
+  where
+    go : (c : Bool) → cond c (record { hash = hashWord w (b .hash); len = suc (b .len); cost = b .cost; graph = b .graph; route = b .route }) b .route ≡ b .route
+    go true = refl
+    go false = refl
+
+-- and as many kept paths
+deep-route : (margin : Float) (cap n : ℕ) (x : History) → Deep n x → (b : Below) → b ∈ belowOf margin cap x → length (b .route) ≤ n
+unfolding byWay
+deep-route margin cap n x d b m =
+    below-each margin cap (λ x b. (n : ℕ) → Deep n x → length (b .route) ≤ n)
+    (record {
+      start = λ n d. omega arith;
+      link = λ m f w s t b r n d. let z = r (d .0) (d .2) in let y = d .1 in let v = ap length (on-top-route w b) in omega arith;
+      own = λ m f x k t b e r n d. let z = r (d .1 .0) (d .1 .2) in let y = d .1 .1 in omega arith;
+      kept = λ m f x k t b q e r n d. let z = r (d .0 .0) (d .0 .2) in let y = d .0 .1 in let v = ap length (on-top-route (x .word) b) in omega arith;
+    }) x b m n d
+
 word-more : (w : ℤ) (ws : List ℤ) → length (withWord w ws) ≤ suc (length ws)
 word-more w ws = go (nonzero w)
   where
@@ -76,6 +96,10 @@ module _ {s : Store} {n : ℕ} {h : ℕ → History} (ok : Stands s n h) where
   -- what is listed below a record has at most as many words as the record's number
   pub below-len : (margin : Float) (cap r : ℕ) → r ≤ n → (b : Below) → b ∈ belowOf margin cap (h r) → b .len ≤ r
   below-len margin cap r l = deep-len margin cap r (h r) (deep-upto r r (omega arith) l)
+
+  -- and takes at most as many kept paths
+  pub below-route : (margin : Float) (cap r : ℕ) → r ≤ n → (b : Below) → b ∈ belowOf margin cap (h r) → length (b .route) ≤ r
+  below-route margin cap r l = deep-route margin cap r (h r) (deep-upto r r (omega arith) l)
 
   words-upto : (b e r : ℕ) → r ≤ b → r ≤ n → e ≤ n → length (wordsTo h e r) ≤ r - e
   unfolding aboveOf wordsOf under

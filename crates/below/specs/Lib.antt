@@ -2,8 +2,9 @@
 pub mod Lists
 pub mod Stored
 pub mod Ways
-pub mod Filling
 pub mod Maps
+pub mod Short
+pub mod Filling
 pub mod Each
 pub mod Paths
 pub mod Down
@@ -15,6 +16,6 @@ pub mod Sums
 pub mod Visited
 pub mod Totals
 pub mod Progress
-pub mod Short
 pub mod Marks
 pub mod Putting
+pub mod Owned

@@ -84,3 +84,4 @@ pub record ListsAsk (rs : List ℕ) (ls : List ℤ) (gs : List Float) (used : �
 
 pub record ListsAre (rs : List ℕ) (ls : List ℤ) (gs : List Float) (used : ℕ) (margin : Float) (cap : ℕ) (lists lists' hs ns : List ℕ) (xs : List Float) (places n : ℕ) : Type 0 where
   pub is : (h : ℕ → History) (links : List ℕ) → Fair rs ls gs used margin cap lists h links → Outcome h used margin cap links lists' hs ns xs places n
+  pub short : (n ≡ 0 → ⊥) → Short lists' hs ns xs used n

@@ -171,7 +171,7 @@ module _ (margin : Float) (margin-small : T (margin ≺ huge)) where
   unfolding byWay
   uncut c gr via b f e d = not-lt→le margin (c ⊕ b .cost) (lt-real-l margin ∞ margin-low) (sum-real c (b .cost) f d) (fails e)
 
-  low-on-top : (w : ℤ) (b : Below) → T (b .cost ≺ ∞) → T (onTop w b .cost ≺ ∞)
+  pub low-on-top : (w : ℤ) (b : Below) → T (b .cost ≺ ∞) → T (onTop w b .cost ≺ ∞)
   low-on-top w b d = subst (λ (x : Float). T (x ≺ ∞)) (sym (on-top-cost w b)) d
 
   -- no cost is a NaN or +∞
@@ -233,7 +233,7 @@ module _ (margin : Float) (margin-small : T (margin ≺ huge)) where
     cost-finite : (c : Float) → T (0f ≼ c) → T (c ≼ margin) → T (finite c)
     cost-finite c u l = between 0f c margin tt (between 0f margin huge tt tt margin-up (lt→le margin huge margin-small)) u l
 
-    up-by : (c gr : Float) (via : List ℕ) (b : Below) → T (0f ≼ c) → T (c ≺ ∞) → T (b .cost ≺ ∞) → T (0f ≼ b .cost) → T (0f ≼ byWay c gr via b .cost)
+    pub up-by : (c gr : Float) (via : List ℕ) (b : Below) → T (0f ≼ c) → T (c ≺ ∞) → T (b .cost ≺ ∞) → T (0f ≼ b .cost) → T (0f ≼ byWay c gr via b .cost)
     unfolding byWay
     up-by c gr via b u f l d =
         le-trans 0f (c ⊕ 0f) (c ⊕ b .cost) (subst (λ (x : Float). T (x ≼ c ⊕ 0f)) zero-zero (add-le binary32 0f c 0f tt u))
