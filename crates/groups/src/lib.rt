@@ -7,7 +7,7 @@ ghost use Rattle.groups.specs.Firsts.{StatesAsk, KeysFilled, RepeatsAsk,
 use fst::NO_STATE;
 
 // The key of each token's reading, and its place.
-fn fill_keys(
+pub fn fill_keys(
     tokens: &[u32],
     records: &[u32],
     labels: &[i32],

@@ -1,0 +1,21 @@
+-- What the stores of a reading list stand for, and why own groups and kept readings, merged, are the definition’s list.
+pub mod Situation
+pub mod Merged
+pub mod Ordering
+pub mod Known
+pub mod Keys
+pub mod Total
+pub mod Parts
+pub mod Survivors
+pub mod Owns
+pub mod Heads
+pub mod Belows
+pub mod Once
+pub mod Orderly
+pub mod Knows
+pub mod Words
+pub mod Left
+pub mod Together
+pub mod Members
+pub mod Sorted
+pub mod Whole
