@@ -1,0 +1,15 @@
+-- How many entries and kept readings the lent slices hold.
+use Prim.Native.Nat.{ℕ, _/_}
+use mathlib.Core.Bool.{cond}
+use lib.Dec.{ltb}
+
+abbrev pub least : ℕ → ℕ → ℕ
+least a b = cond (ltb b a) b a
+
+-- as many entries as the three slices hold
+abbrev pub entryPlaces : (hashes nexts sums : ℕ) → ℕ
+entryPlaces h x s = least (least h (x / 3)) (least (s / 2) 0x7fff_fff0)
+
+-- as many kept readings as their slices hold, the keys that they are sorted by, and the list behind a place for every state
+abbrev pub keptPlaces : (hashes links sums keys order list : ℕ) → ℕ
+keptPlaces h l s k o x = least (least (least (least h (l / 4)) (least (s / 2) k)) o) (least x 0x7fff_fff0)

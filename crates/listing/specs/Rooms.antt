@@ -1,0 +1,55 @@
+-- The places that are counted are there. Assumes nothing.
+use mathlib.Core.Path.{_≡_}
+use Prim.Native.Nat.{ℕ, _/_, _≤_}
+use native.Mathlib.Omega.{arith}
+use mathlib.Core.List.{List}
+use lib.ListN.{length}
+use lib.Ieee.{Float}
+use borrow.Author.Tests.{lt-ltb, le-ltb}
+use Rattle.lists.specs.Tests.{case, lt-or-le}
+use Rattle.entries.specs.Entries.{Room as EntryRoom}
+use Rattle.kept_readings.specs.Kept.{Room}
+use Rattle.listing.specs.Places.{least, entryPlaces, keptPlaces}
+
+least-both : (a b : ℕ) → (least a b ≤ a) × (least a b ≤ b)
+least-both a b = case (lt-or-le b a) (λ l. rw (lt-ltb b a l) (omega arith, omega arith)) (λ l. rw (le-ltb b a l) (omega arith, omega arith))
+
+-- each of four
+least-of-four : (a b c d : ℕ) → (least (least a b) (least c d) ≤ a) × (least (least a b) (least c d) ≤ b) × (least (least a b) (least c d) ≤ c) × (least (least a b) (least c d) ≤ d)
+least-of-four a b c d =
+    let x = least-both (least a b) (least c d) in
+    let y = least-both a b in
+    let z = least-both c d in
+    (omega arith, omega arith, omega arith, omega arith)
+
+module _ (h x s : ℕ) {r : ℕ} (is : r ≡ entryPlaces h x s) where
+  pub entry-few : r ≤ 0x7fff_fff0
+  entry-few = let z = least-of-four h (x / 3) (s / 2) 0x7fff_fff0 .3 in omega arith
+
+  pub entry-room : {hs ns : List ℕ} {xs : List Float} → length hs ≡ h → length ns ≡ x → length xs ≡ s → EntryRoom hs ns xs r
+  entry-room p q v =
+      let z = least-of-four h (x / 3) (s / 2) 0x7fff_fff0 in
+      record { hashes = omega arith; nexts = omega arith; sums = omega arith }
+
+module _ (h l s k o x : ℕ) {r : ℕ} (is : r ≡ keptPlaces h l s k o x) where
+  abbrev stored : ℕ
+  stored = least (least h (l / 4)) (least (s / 2) k)
+
+  -- of the keys, the order, what is left of the list, and numbers
+  pub record Fewer : Type 0 where
+    pub keys : r ≤ k
+    pub order : r ≤ o
+    pub list : r ≤ x
+    pub numbers : r ≤ 0x7fff_fff0
+
+  pub kept-few : Fewer
+  kept-few =
+      let z = least-of-four stored o x 0x7fff_fff0 in
+      let y = least-of-four h (l / 4) (s / 2) k in
+      record { keys = omega arith; order = omega arith; list = omega arith; numbers = omega arith }
+
+  pub kept-room : {hs ns : List ℕ} {xs : List Float} → length hs ≡ h → length ns ≡ l → length xs ≡ s → Room hs ns xs r
+  kept-room p q v =
+      let z = least-of-four stored o x 0x7fff_fff0 in
+      let y = least-of-four h (l / 4) (s / 2) k in
+      record { hashes = omega arith; links = omega arith; sums = omega arith }
