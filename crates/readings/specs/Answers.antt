@@ -29,9 +29,9 @@ use Rattle.stores.specs.Rep.{lent, Finished}
 use Rattle.stores.specs.Tables.{active-at}
 use Rattle.traceback.specs.declared.Size.{Size}
 use Rattle.traceback.specs.Table.{FinalsCount}
-use Rattle.traceback.specs.Trail.{Trail}
-use Rattle.traceback.specs.Chain.{SizeIs}
-use Rattle.traceback.specs.Traced.{trail-is}
+use Rattle.traceback.specs.Trail.{Trail, noTrail}
+use Rattle.traceback.specs.Chain.{trailFrom, SizeIs}
+use Rattle.traceback.specs.Traced.{Routed, trail-is}
 use Rattle.traceback.specs.Write.{flat}
 use Rattle.traceback.specs.Right.{parts, segmentsIn, ReadAsks}
 use Rattle.traceback.specs.Answers.{toldBy, measured, told-written}
@@ -54,31 +54,31 @@ sets-same {A} vs rest = sets-eq vs (vs ++ rest) 0 (let z = length-append vs rest
     go [] e = ap₂ (λ (k : ℕ) (x : List A). vs ++ drop k x) (zero-add (length vs)) e
     go (y ∷ l) e = ap₂ (λ (k : ℕ) (x : List A). vs ++ drop k x) (zero-add (length vs)) e
 
-module _ (tk rs : List ℕ) (ls : List ℤ) (gs : List Float) (b used n s : ℕ) (z : Size) (size : SizeIs (trailAt tk rs ls b n s) used z) (h : ℕ → History) (ok : Stands (store rs ls gs) used h) (p : Path) (i : Is h used (linkAt tk b s) p) (c : Float) where
+module _ (rs : List ℕ) (ls : List ℤ) (gs : List Float) (route : List ℕ) (used n link : ℕ) (z : Size) (size : SizeIs (trailFrom rs ls route n link noTrail) used z) (h : ℕ → History) (ok : Stands (store rs ls gs) used h) (routed : Routed used route) (p : Path) (i : Is h used link p) (c : Float) where
   abbrev trail : Trail
-  trail = trailAt tk rs ls b n s
+  trail = trailFrom rs ls route n link noTrail
 
   even-of : length (trail .frames) ≡ length (trail .words)
   even-of =
-      let e = trail-is rs ls gs [] n used h ok (λ x k. elim k [ ]) (linkAt tk b s) p c i in
-      let m = measured rs ls [] used n (linkAt tk b s) z size (parts [] [] []) gs h ok (λ x k. elim k [ ]) p c i in
+      let e = trail-is rs ls gs route n used h ok routed link p c i in
+      let m = measured rs ls route used n link z size (parts [] [] []) gs h ok routed p c i in
       sym (ap (λ (t : Told). length (t .wordFrames)) e) ∙ sym (m .1) ∙ size .words
 
   back-of : (rest : List ℕ) → segmentsIn (length (trail .segments)) (flat (trail .segments) ++ rest) ≡ trail .segments
   back-of rest =
-      let e = trail-is rs ls gs [] n used h ok (λ x k. elim k [ ]) (linkAt tk b s) p c i in
+      let e = trail-is rs ls gs route n used h ok routed link p c i in
       let S = flat (trail .segments) ++ rest in
       let w =
-      told-written rs ls [] used n (linkAt tk b s) z size (parts (trail .words) (trail .frames) S) {m' = parts (sets (trail .words) 0 (trail .words)) (sets (trail .frames) 0 (trail .frames)) (sets S 0 (flat (trail .segments)))}
+      told-written rs ls route used n link z size (parts (trail .words) (trail .frames) S) {m' = parts (sets (trail .words) 0 (trail .words)) (sets (trail .frames) 0 (trail .frames)) (sets S 0 (flat (trail .segments)))}
       (record {
         words = let y = size .words in omega arith;
         frames = let y = size .words in let x = even-of in omega arith;
         segments = let y = size .segments in let x = flat-length (trail .segments) in let v = length-append (flat (trail .segments)) rest in omega arith;
       })
-      (record { words = refl; frames = refl; segments = refl }) gs h ok (λ x k. elim k [ ]) p c i in
+      (record { words = refl; frames = refl; segments = refl }) gs h ok routed p c i in
       ap₂ segmentsIn (sym (size .segments)) (sym (sets-same (flat (trail .segments)) rest)) ∙ ap (λ (t : Told). t .phones) (w ∙ e)
 
-  plain-of : Plain (toldBy trail c)
+  pub plain-of : Plain (toldBy trail c)
   plain-of = record { as-many = even-of; back = back-of }
 
 plains-of : (f : ℕ → Told) (xs : List ℕ) → ((i : ℕ) → i < length xs → Plain (f (getD xs i 0))) → Plains (map f xs)
@@ -137,7 +137,7 @@ module _ {tk : List ℕ} {sm fs : List Float} {rs : List ℕ} {ls : List ℤ} {n
           let F = read .finished in
           let d = l .each i q in
           let z = t .sized i q in
-          plain-of tk rs ls (read .gaps) b used decoded (getD order' i 0) (z .0) (z .1) (F .h) (F .stands) (active-at (F .shown) (getD order' i 0) (d .0) (d .1) .token .path) (link-shown (F .shown) (getD order' i 0) (d .0) (d .1)) (costIn sm fs b counts (getD order' i 0))
+          plain-of rs ls (read .gaps) [] used decoded (linkAt tk b (getD order' i 0)) (z .0) (z .1) (F .h) (F .stands) (λ x k. elim k [ ]) (active-at (F .shown) (getD order' i 0) (d .0) (d .1) .token .path) (link-shown (F .shown) (getD order' i 0) (d .0) (d .1)) (costIn sm fs b counts (getD order' i 0))
 
       plain-all : Plains told-all
       plain-all =

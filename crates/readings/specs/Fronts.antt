@@ -73,15 +73,15 @@ ends-long w s (t ∷ ts) = let e = ends-long (w + length (t .words)) (s + length
 -- ---- one more path
 
 module _ (t : Told) where
-  words-more : (ts : List Told) → allWords (ts ++ t ∷ []) ≡ allWords ts ++ t .words
+  pub words-more : (ts : List Told) → allWords (ts ++ t ∷ []) ≡ allWords ts ++ t .words
   words-more [] = append-nil (t .words)
   words-more (x ∷ ts) = ap (λ (l : List ℤ). x .words ++ l) (words-more ts) ∙ sym (append-assoc (x .words) (allWords ts) (t .words))
 
-  frames-more : (ts : List Told) → allFrames (ts ++ t ∷ []) ≡ allFrames ts ++ t .wordFrames
+  pub frames-more : (ts : List Told) → allFrames (ts ++ t ∷ []) ≡ allFrames ts ++ t .wordFrames
   frames-more [] = append-nil (t .wordFrames)
   frames-more (x ∷ ts) = ap (λ (l : List ℕ). x .wordFrames ++ l) (frames-more ts) ∙ sym (append-assoc (x .wordFrames) (allFrames ts) (t .wordFrames))
 
-  segments-more : (ts : List Told) → allSegments (ts ++ t ∷ []) ≡ allSegments ts ++ flat (t .phones)
+  pub segments-more : (ts : List Told) → allSegments (ts ++ t ∷ []) ≡ allSegments ts ++ flat (t .phones)
   segments-more [] = append-nil (flat (t .phones))
   segments-more (x ∷ ts) = ap (λ (l : List ℕ). flat (x .phones) ++ l) (segments-more ts) ∙ sym (append-assoc (flat (x .phones)) (allSegments ts) (flat (t .phones)))
 
@@ -110,13 +110,13 @@ module _ (t : Told) where
 
 -- ---- one path
 
-abbrev partOf : {A : Type 0} → List A → ℕ → List A
+abbrev pub partOf : {A : Type 0} → List A → ℕ → List A
 partOf l a = take (length l - a) (drop a l)
 
-abbrev putPart : {A : Type 0} → List A → ℕ → List A → List A
+abbrev pub putPart : {A : Type 0} → List A → ℕ → List A → List A
 putPart l a ys = take a l ++ (ys ++ drop (length l - a) (drop a l))
 
-part-long : {A : Type 0} (l : List A) (a : ℕ) → length (partOf l a) ≡ length l - a
+pub part-long : {A : Type 0} (l : List A) (a : ℕ) → length (partOf l a) ≡ length l - a
 part-long l a = length-take-le (length l - a) (drop a l) (let d = length-drop a l in omega arith)
 
 module _ {t : Trail} {at z : Size} {used : ℕ} {W : List ℤ} {F S : List ℕ} (asks : PutAsks t at W F S) (size : SizeIs t used z) where

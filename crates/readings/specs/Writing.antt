@@ -15,7 +15,7 @@ use Rattle.readings.specs.Paths.{costIn, trailAt, toldsOf, wordsIn, fram
 use Rattle.readings.specs.Fronts.{words-sum, frames-sum, phones-sum, words-long, frames-long, segments-long, ends-long, filled-none, filled-next}
 use Rattle.readings.specs.Totals.{told-more}
 
-front-fits : {A : Type 0} (l l' vs : List A) → l' ≡ front l vs → length vs ≤ length l → length l' ≡ length l
+pub front-fits : {A : Type 0} (l l' vs : List A) → l' ≡ front l vs → length vs ≤ length l → length l' ≡ length l
 front-fits l l' vs e h = ap length e ∙ (let a = length-append vs (drop (length vs) l) in let b = length-drop (length vs) l in omega arith)
 
 -- fewer states, smaller paths together

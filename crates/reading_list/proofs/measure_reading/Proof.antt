@@ -1,0 +1,40 @@
+-- The walk from the token's newest record, along the entry's route.
+use mathlib.Core.Path.{sym}
+use lib.Seq.{length-take-le}
+use Rattle.reading_list.specs.Behind.{size-of}
+use borrow.Author.Needs.{needs}
+use Rattle.reading_list.proofs.measure_reading.Statement.{statement}
+use Rattle.reading_list.proofs.measure_reading.Tie as tie
+
+link-at-requires : tie.Need-link-at-requires
+link-at-requires c κs = search needs
+
+route-of-requires : tie.Need-route-of-requires
+route-of-requires c κs = search needs
+
+slice-reshare-prefix-measure : tie.Need-slice-reshare-prefix-measure
+slice-reshare-prefix-measure c = search needs
+
+slice-aggregate-measure : tie.Need-slice-aggregate-measure
+slice-aggregate-measure c = sym (length-take-le _ _ (c .before .before .before .route-of .ensures .few))
+
+measure-requires : tie.Need-measure-requires
+measure-requires c κs = search needs
+
+same-length : tie.Need-same-length
+same-length c = search needs
+
+returns : tie.Need-returns
+returns c = size-of (c .before .before .before .before .before .before .before .before .before .before .before .args .tokens .now) (c .before .before .before .before .before .before .before .before .before .before .before .args .records .now) (c .before .before .before .before .before .before .before .before .before .before .before .args .labels .now) (c .before .before .before .before .before .before .before .before .before .before .before .args .nexts .now) (c .before .before .before .before .before .before .before .before .before .before .before .args .side) (c .before .before .before .before .before .before .before .before .before .before .before .args .n) (c .before .before .before .before .before .before .before .before .before .before .before .args .g) (c .before .before .before .before .route-of .ensures) (c .before .before .before .before .before .before .link-at .ensures) (c .measure .ensures)
+
+pub measure-reading-spec : {M : Type 1} → statement M
+measure-reading-spec =
+    tie.close
+    (tie.spec
+    link-at-requires
+    route-of-requires
+    slice-reshare-prefix-measure
+    slice-aggregate-measure
+    measure-requires
+    same-length
+    returns)
