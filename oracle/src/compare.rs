@@ -10,7 +10,7 @@ use std::process::{Command, Stdio};
 /// A faulty script's answer, which a program gives for a call that it does not have.
 const FAULT: u32 = u32::MAX;
 /// Scripts are joined up to this many words, so that one run of the program serves many.
-const WORDS: usize = 400_000;
+const WORDS: usize = 300_000;
 
 fn answers_of(program: &str, script: &[Rec]) -> Vec<Rec> {
     let mut child = Command::new(program)
@@ -31,26 +31,42 @@ struct Tally {
     scripts: u64,
     calls: BTreeMap<(u32, u32), u64>,
     unanswered: BTreeMap<u32, u64>,
+    outgrown: u64,
     differences: u64,
 }
 
 impl Tally {
-    /// The answers of one run; a call that the program answers as faulty and the oracle does not is counted apart.
-    fn compare(&mut self, program: &str, script: &[Rec], without: &[u32]) {
-        let want = Driver::new(Mode::Refusing).run(script);
-        let got = answers_of(program, script);
+    /// The answers of one run over these scripts, from the `from`-th on. Gives the script to go on from, where one outgrew the program: its call is answered as
+    /// faulty, and the program ends there.
+    fn compare(&mut self, program: &str, scripts: &[Vec<Rec>], from: usize, without: &[u32]) -> Option<usize> {
+        let script: Vec<Rec> = scripts[from..].iter().flatten().cloned().collect();
+        let want = Driver::new(Mode::Refusing).run(&script);
+        let got = answers_of(program, &script);
         for (i, a) in want.iter().enumerate() {
             let kind = script[i].kind;
             if without.contains(&kind) {
                 *self.unanswered.entry(kind).or_default() += 1;
                 continue;
             }
+            if got.len() == i + 1 && got[i].words == [FAULT] && a.refusal() != FAULT {
+                self.outgrown += 1;
+                println!("call {i}, {}: outgrown", name(kind));
+                return Some(from + 1 + scripts[from..].iter().scan(0, |n, s| { *n += s.len(); Some(*n) }).take_while(|&n| n <= i).count());
+            }
             *self.calls.entry((kind, a.refusal())).or_default() += 1;
             if got.get(i) != Some(&a.rec()) {
                 self.differences += 1;
                 println!("call {i}, {}: {:?}\n  {:?}", name(kind), a.rec(), got.get(i));
-                return;
+                return None;
             }
+        }
+        None
+    }
+
+    fn compare_all(&mut self, program: &str, scripts: &[Vec<Rec>], without: &[u32]) {
+        let mut from = Some(0);
+        while let Some(i) = from.filter(|&i| i < scripts.len()) {
+            from = self.compare(program, scripts, i, without);
         }
     }
 }
@@ -58,7 +74,7 @@ impl Tally {
 /// Seeds `from` to `to` of the four generators. `without`: kinds that the program does not have.
 pub fn run(program: &str, from: u64, to: u64, without: &[u32]) {
     let mut tally = Tally::default();
-    let mut joined: Vec<Rec> = Vec::new();
+    let mut joined: Vec<Vec<Rec>> = Vec::new();
     let mut words = 0;
     for seed in from..=to {
         for script in [
@@ -69,16 +85,16 @@ pub fn run(program: &str, from: u64, to: u64, without: &[u32]) {
         ] {
             let size: usize = script.iter().map(|r| r.words.len() + 2).sum();
             if words + size > WORDS {
-                tally.compare(program, &joined, without);
+                tally.compare_all(program, &joined, without);
                 joined.clear();
                 words = 0;
             }
             words += size;
-            joined.extend(script);
+            joined.push(script);
             tally.scripts += 1;
         }
     }
-    tally.compare(program, &joined, without);
+    tally.compare_all(program, &joined, without);
     let calls: u64 = tally.calls.values().sum();
     println!("scripts {} calls compared {calls} differences {}", tally.scripts, tally.differences);
     for ((kind, refusal), n) in &tally.calls {
@@ -88,6 +104,9 @@ pub fn run(program: &str, from: u64, to: u64, without: &[u32]) {
             r => format!("refused by {r}"),
         };
         println!("  {} {how}: {n}", name(*kind));
+    }
+    if tally.outgrown > 0 {
+        println!("  scripts that outgrew the program's places, left there: {}", tally.outgrown);
     }
     for (kind, n) in &tally.unanswered {
         println!("  {} left out: {n}", name(*kind));
