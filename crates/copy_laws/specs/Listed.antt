@@ -6,7 +6,7 @@ use mathlib.Core.Option.{Option, none, some}
 use mathlib.Core.List.{List, [], _∷_, _++_, map, tail, List·Memᴰ·head as here, List·Memᴰ·tail as there, List·Memᴰ·append-cases}
 use lib.Ieee.{Float}
 use Rattle.lists.specs.Tests.{case}
-use Rattle.lists.specs.Lists.{_∈_, sortBy, firsts}
+use Rattle.lists.specs.Lists.{_∈_, keepIf, sortBy, firsts}
 use Rattle.lists.specs.Members.{keep-from, sort-from, firsts-from, map-from}
 use Rattle.model.specs.Basics.{_≼_, 0f}
 use Rattle.model.specs.Graph.{Graph, isFinal}
@@ -47,6 +47,8 @@ pub record KeptBy (finals : Bool) (margin : Float) (cap : ℕ) (rs : List Ranked
   pub head : Ranked
   pub among : head ∈ rs
   pub way : Below
+  -- not the first, which is the token's own
+  pub behind : way ∈ tail (below margin cap (head .token .path))
   pub below : way ∈ below margin cap (head .token .path)
   pub is : k ≡ keptOf finals head way
 
@@ -61,21 +63,23 @@ kept-below finals margin cap (r ∷ rs) k m = case (List·Memᴰ·append-cases (
     bs = tail (below margin cap (r .token .path))
 
     first : k ∈ map (keptOf finals r) bs → KeptBy finals margin cap (r ∷ rs) k
-    first n = let (b, i, e) = map-from (keptOf finals r) bs k n in record { head = r; among = here refl; way = b; below = tail-from (below margin cap (r .token .path)) b i; is = e }
+    first n = let (b, i, e) = map-from (keptOf finals r) bs k n in record { head = r; among = here refl; way = b; behind = i; below = tail-from (below margin cap (r .token .path)) b i; is = e }
 
     later : KeptBy finals margin cap rs k → KeptBy finals margin cap (r ∷ rs) k
-    later d = record { head = d .head; among = there (d .among); way = d .way; below = d .below; is = d .is }
+    later d = record { head = d .head; among = there (d .among); way = d .way; behind = d .behind; below = d .below; is = d .is }
+
+-- of the heads among these tokens
+pub kept-heads : (finals : Bool) (margin bound : Float) (cap : ℕ) (rs : List Ranked) (k : Kept) → k ∈ keepIf (λ (k : Kept). not (bound ≼ k .ranked .rank)) (keptBelow finals margin cap (heads finals bound rs)) → KeptBy finals margin cap rs k
+unfolding heads
+kept-heads finals margin bound cap rs k m =
+    let hs = heads finals bound rs in
+    let d = kept-below finals margin cap hs k (keep-from (λ (k : Kept). not (bound ≼ k .ranked .rank)) (keptBelow finals margin cap hs) k m) in
+    record { head = d .head; among = firsts-from sameHead [] rs (d .head) (keep-from _ (firsts sameHead [] rs) (d .head) (d .among)); way = d .way; behind = d .behind; below = d .below; is = d .is }
 
 -- of the kept map over these heads
 pub kept-by : (g : Graph) (st : State) (f : Bool) (margin bound : Float) (cap : ℕ) (k : Kept) → k ∈ keptMap (useFinals g st f) margin bound cap (heads (useFinals g st f) bound (ranked g st f)) → KeptBy (useFinals g st f) margin cap (ranked g st f) k
-unfolding keptMap heads
-kept-by g st f margin bound cap k m =
-    let finals = useFinals g st f in
-    let hs = heads finals bound (ranked g st f) in
-    let m₁ = firsts-from (λ (a b : Kept). sameKey (a .key) (b .key)) [] _ k m in
-    let m₂ = sort-from (λ (a b : Kept). sooner (a .ranked) (b .ranked)) _ k m₁ in
-    let d = kept-below finals margin cap hs k (keep-from (λ (k : Kept). not (bound ≼ k .ranked .rank)) (keptBelow finals margin cap hs) k m₂) in
-    record { head = d .head; among = firsts-from sameHead [] (ranked g st f) (d .head) (keep-from _ (firsts sameHead [] (ranked g st f)) (d .head) (d .among)); way = d .way; below = d .below; is = d .is }
+unfolding keptMap
+kept-by g st f margin bound cap k m = kept-heads (useFinals g st f) margin bound cap (ranked g st f) k (sort-from (λ (a b : Kept). sooner (a .ranked) (b .ranked)) _ k (firsts-from (λ (a b : Kept). sameKey (a .key) (b .key)) [] _ k m))
 
 kept-listed : (g : Graph) (st : State) (f : Bool) (margin bound : Float) (cap : ℕ) (k : Kept) → k ∈ keptMap (useFinals g st f) margin bound cap (heads (useFinals g st f) bound (ranked g st f)) → Listed g (useFinals g st f) (st .table) (keptGroup k)
 unfolding keptOf

@@ -69,7 +69,7 @@ module _ {A K : Type 0} (key : A → K) where
     pub each : (x : A) → x ∈ xs → (y : A) × (y ∈ ys) × (key x ≡ key y)
     pub apart : Nodup (map key ys)
 
-  nodup-map : (ys : List A) → Nodup (map key ys) → Nodup ys
+  pub nodup-map : (ys : List A) → Nodup (map key ys) → Nodup ys
   nodup-map [] n = tt
   nodup-map (y ∷ ys) n = (λ m. n .0 (map-to key ys y m), nodup-map ys (n .1))
 

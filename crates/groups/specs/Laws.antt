@@ -260,7 +260,7 @@ module _ {tk rs : List ℕ} {ls : List ℤ} {b used : ℕ} {to-join : Bool} {ord
       all-same a zero e = refl
       all-same a (suc m) e = ap₂ (λ (x : ℕ) (xs : List ℕ). x ∷ xs) (e a (omega arith)) (all-same (suc a) m (λ k l. e k (omega arith)))
 
-  sorted-places : PlacesSorted keyAt n ks' ps'
+  pub sorted-places : PlacesSorted keyAt n ks' ps'
   sorted-places = places-sorted keyAt n (take-range ks n ks-long) places-are L S
 
   pub drops-asks : DropsAsk tk rs ls b used order n ks' ps'

@@ -31,7 +31,8 @@ abbrev pub isHeadOf : (finals : Bool) → (bound : Float) → Ranked → Bool
 isHeadOf finals bound r = ltb 0 (joinNumber (r .token .path)) && (finals || not (bound ≼ r .rank))
 
 module _ {A B : Type 0} (f : A → B) (p : A → Bool) (q : B → Bool) where
-  keep-as : (xs : List A) → ((x : A) → x ∈ xs → p x ≡ q (f x)) → map f (keepIf p xs) ≡ keepIf q (map f xs)
+  -- tests that agree on the members keep the same
+  pub keep-as : (xs : List A) → ((x : A) → x ∈ xs → p x ≡ q (f x)) → map f (keepIf p xs) ≡ keepIf q (map f xs)
   keep-as [] e = refl
   keep-as (x ∷ xs) e = go (p x) (q (f x)) (e x (here refl)) (keep-as xs (λ y m. e y (there m)))
     where

@@ -17,19 +17,20 @@ use Rattle.listing.specs.declared.KeptFound.{KeptFound}
 use Rattle.listing.specs.declared.KeptFound.the-variants.{Full as NoPlace, Found as FoundOf}
 use Rattle.listing.specs.declared.Listing.the-variants.{Full, Items}
 use Rattle.listing.specs.Listed.{StoresAsk, boundOf, BoundAsks, OwnListed, Found, FoundIs, areFound, Slices, WithAsks, WithIs, overfull, ListingIs, isFull, areItems}
-use Rattle.listing.specs.Owning.{at-held}
+use Rattle.listing.specs.Owning.{few-own, at-held}
 use Rattle.listing.specs.Finding.{own-asks}
 use Rattle.listing.specs.Counts.{found-fits, found-full}
-use Rattle.listing.specs.Alone.{few-own}
 use Rattle.listing.specs.Listing.{list-right}
 
 module _ {tk : List ℕ} {sm fs : List Float} {rs : List ℕ} {ls : List ℤ} {gs : List Float} {n b used : ℕ} {keeps : Bool} {margin : Float} (A : StoresAsk tk sm fs rs ls gs n b used keeps margin) (listed : ℕ) (listing : (keeps && ltb 0 listed) ≡ true) where
   begins : 0 < listed
   begins = ltb-true 0 listed (and-both keeps (ltb 0 listed) listing .1)
 
+  -- where kept readings are listed, merges were kept
   pub stores-kept : StoresAsk tk sm fs rs ls gs n b used true margin
   stores-kept = subst (λ (k : Bool). StoresAsk tk sm fs rs ls gs n b used k margin) (and-both keeps (ltb 0 listed) listing .0) A
 
+  -- for the bound
   pub bound-asks : {counts : Bool} {heads own : List ℕ} {o : Ranked} → OwnListed tk sm fs rs ls b n used counts heads own o → BoundAsks tk sm fs b own (o .own) listed
   bound-asks {counts} {own = own} O =
       record {
@@ -52,6 +53,7 @@ module _ {tk : List ℕ} {sm fs : List Float} {rs : List ℕ} {ls : List ℤ} {g
       subst (λ (x : KeptFound). FoundIs tk sm fs rs ls gs b used margin counts listed (boundOf tk sm fs b counts own (o .own) listed) heads (o .all) hs ns xs entries khs kns kxs most x) e
       (subst (λ (y : Float). FoundIs tk sm fs rs ls gs b used margin counts listed y heads (o .all) hs ns xs entries khs kns kxs most res) at-bound F)
 
+  -- a store is full
   pub is-full : (keeps : Bool) (A : StoresAsk tk sm fs rs ls gs n b used keeps margin) → (keeps && ltb 0 listed) ≡ true → {kept : ℕ} → most ≡ kept → res ≡ NoPlace → {list : List ℕ}
       → ListingIs tk sm fs rs ls gs n b used keeps margin counts listed entries kept hs ns xs khs kns kxs list Full
   is-full true A l {kept} e q =
@@ -94,6 +96,7 @@ module _ {tk : List ℕ} {sm fs : List Float} {rs : List ℕ} {ls : List ℤ} {g
           list-long = list;
         }
 
+    -- and are the list
     pub are-items : (keeps : Bool) (A : StoresAsk tk sm fs rs ls gs n b used keeps margin) → (keeps && ltb 0 listed) ≡ true → EntryRoom hs ns xs entries → Room khs kns kxs most → {kept : ℕ} → most ≡ kept
         → {list : List ℕ} {k : ℕ} → WithIs tk sm fs rs ls b counts own (o .own) ns khs kns kxs r list k → ListingIs tk sm fs rs ls gs n b used keeps margin counts listed entries kept hs ns xs khs kns kxs list (Items k)
     are-items true A l E K e {k = k} W =

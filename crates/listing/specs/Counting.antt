@@ -23,6 +23,7 @@ none-counts : (g : Graph) (s : ℕ) (t : Token) → isFinal g s ≡ false → fi
 unfolding rankOne
 none-counts g s t e = case (either (finite (rankOne true (finalWeight g s) t .cost))) (λ q. never (sym e ∙ is-true (finite-r binary32 (t .cost) (finalWeight g s) (holds q)))) (λ q. q)
 
+-- so none is ranked where no state is final
 none-ranked : (g : Graph) (s : ℕ) (ts : Table) → anyFinal g s ts ≡ false → rankFrom g true s ts ≡ []
 unfolding rankFrom
 none-ranked g s [] e = refl
@@ -36,6 +37,7 @@ no-images f [] e = refl
 no-images f (x ∷ xs) e = absurd (subst (λ l. elim l as (λ z. Type 0) [ [] ↦ ⊥ | y ∷ ys ↦ Unit {0} ]) e tt)
 
 module _ {tk : List ℕ} {sm fs : List Float} {rs : List ℕ} {ls : List ℤ} {gs : List Float} {n b used : ℕ} {keeps : Bool} {margin : Float} (S : Situation tk sm fs rs ls gs n b used keeps margin) where
+  -- counts is what the definition takes for some use of finals, or nothing is ranked
   pub counts-as : (counts : Bool) {order : List ℕ} {all : ℕ} → RankedIs tk sm fs b n counts order all → ((f : Bool) × (counts ≡ useFinals (S .g) (S .st) f)) ⊎ (take all order ≡ [])
   counts-as false R = inl (false, refl)
   counts-as true {order} {all} R =

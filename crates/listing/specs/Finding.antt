@@ -3,19 +3,19 @@ use mathlib.Core.Path.{_≡_, subst}
 use Prim.Native.Nat.{ℕ, _+_, _-_, _*_, _≤_, _<_}
 use native.Mathlib.Omega.{arith}
 use mathlib.Core.Bool.{Bool, true}
-use mathlib.Core.List.{List, []}
+use mathlib.Core.List.{List}
 use lib.IntN.{ℤ}
 use lib.ListN.{length, getD, take}
 use lib.Ieee.{Float}
 use borrow.Author.Tests.{ne-eqb}
 use Rattle.lists.specs.Lists.{_∈_}
-use Rattle.lists.specs.Members.{keep-from, firsts-from, map-from}
+use Rattle.lists.specs.Members.{keep-from, map-from}
 use Rattle.records.specs.History.{History}
 use Rattle.records.specs.Layout.{store}
 use Rattle.records.specs.Stands.{Stands}
 use Rattle.joins.specs.Walk.{Chains}
 use Rattle.ranking.specs.Ranked.{RankAsks, RankedIs}
-use Rattle.groups.specs.Firsts.{linkAt, dropped, sameStates, StatesAsk, FirstsIs}
+use Rattle.groups.specs.Firsts.{linkAt, dropped, StateAsks as GroupAsks, StatesAsk, FirstsIs}
 use Rattle.entries.specs.Entries.{Room as EntryRoom}
 use Rattle.below.specs.Marks.{linkOf, headLinks, HeadsAsk as BelowHeadsAsk}
 use Rattle.below.specs.Filling.{BelowAsks, BelowIs, Outcome, wasFull, wasFilled}
@@ -24,10 +24,10 @@ use Rattle.kept_readings.specs.Heads.{isHead, StateAsks, HeadsAsk, FillAsks, Fi
 use Rattle.kept_readings.specs.Asks.{below-asks}
 use Rattle.merged.specs.Items.{OwnAsks}
 use Rattle.listing_laws.specs.Situation.{Situation, Held}
-use Rattle.listing_laws.specs.Owns.{link-in}
+use Rattle.listing_laws.specs.Alike.{at-front}
+use Rattle.listing_laws.specs.Owns.{firsts-among, link-in}
 use Rattle.listing_laws.specs.Knows.{low}
 use Rattle.listing.specs.declared.KeptFound.the-variants.{Full as NoPlace, Found as FoundOf}
-use Rattle.listing.specs.Owning.{at-front}
 use Rattle.listing.specs.Listed.{StoresAsk, HeadsListed, Found, FoundIs, entriesFull, mapFull, areFound}
 
 -- states to begin from, whose tokens have records of a store that stands for some histories
@@ -46,7 +46,12 @@ pub record HeadsListAsks (tk : List ℕ) (sm fs : List Float) (rs : List ℕ) (l
 
 -- ---- the heads
 
+-- as the grouping asks it
+named-asks : {tk : List ℕ} {sm fs : List Float} {b used s : ℕ} → StateAsks tk sm fs b used s → s < dropped → GroupAsks tk b used s
+named-asks {s = s} a l = record { inside = a .tokens; low = a .low; named = ne-eqb s dropped (λ q. omega arith) }
+
 module _ {tk : List ℕ} {sm fs : List Float} {rs : List ℕ} {ls : List ℤ} {b used : ℕ} {heads : List ℕ} {n keys places : ℕ} (asks : HeadsListAsks tk sm fs rs ls b used heads n keys places) where
+  -- for the grouping
   pub heads-states : StatesAsk tk rs ls b used heads n
   heads-states =
       record {
@@ -54,12 +59,10 @@ module _ {tk : List ℕ} {sm fs : List Float} {rs : List ℕ} {ls : List ℤ} {b
         chains = asks .chains;
         long = asks .long;
         few = asks .few;
-        each = λ i l.
-            let k = at-front heads n i (asks .long) l in
-            let a = asks .each (getD heads i 0) k in
-            record { inside = a .tokens; low = a .low; named = ne-eqb (getD heads i 0) dropped (λ q. let z = asks .named (getD heads i 0) k in omega arith) };
+        each = λ i l. let k = at-front heads n i (asks .long) l in named-asks (asks .each (getD heads i 0) k) (asks .named (getD heads i 0) k);
       }
 
+  -- for the test of each
   pub heads-ask : {heads' : List ℕ} {k : ℕ} → FirstsIs tk rs ls b used true heads heads' n k → length heads' ≡ length heads → HeadsAsk tk sm fs rs ls b used heads' k
   heads-ask {heads'} {k} F e =
       let long : k ≤ length heads' = let x = F .few in let y = asks .long in omega arith in
@@ -67,25 +70,29 @@ module _ {tk : List ℕ} {sm fs : List Float} {rs : List ℕ} {ls : List ℤ} {b
         side = asks .side;
         chains = asks .chains;
         long = long;
-        each = λ i l.
-            asks .each (getD heads' i 0)
-            (firsts-from (sameStates (asks .h) tk b true) [] (take n heads) (getD heads' i 0)
-            (subst (λ (xs : List ℕ). getD heads' i 0 ∈ xs) (F .is (asks .gs) (asks .h) (asks .stands)) (at-front heads' k i long l)));
+        each = λ i l. asks .each (getD heads' i 0) (firsts-among (asks .h) (asks .stands) F (getD heads' i 0) (at-front heads' k i long l));
       }
 
 -- the heads are among the states that they are of
 pub head-ranked : {tk : List ℕ} {sm fs : List Float} {rs : List ℕ} {ls : List ℤ} {gs : List Float} {n b used : ℕ} {keeps : Bool} {margin : Float} (S : Situation tk sm fs rs ls gs n b used keeps margin) {counts : Bool} {bound : Float} {heads heads' : List ℕ} {all m : ℕ}
     → HeadsListed tk sm fs rs ls b used counts bound heads heads' all m → (s : ℕ) → s ∈ take m heads' → s ∈ take all heads
-head-ranked {tk} {sm} {fs} {gs = gs} {b = b} S {counts} {bound} {heads} {all = all} H s i =
+head-ranked {tk} {sm} {fs} {gs = gs} {b = b} S {counts} {bound} H s i =
     let k = keep-from (isHead (S .h) tk sm fs b counts bound) (take (H .k) (H .between)) s (subst (λ (xs : List ℕ). s ∈ xs) (H .are .is gs (S .h) (S .stands)) i) in
-    firsts-from (sameStates (S .h) tk b true) [] (take all heads) s (subst (λ (xs : List ℕ). s ∈ xs) (H .firsts .is gs (S .h) (S .stands)) k)
+    firsts-among (S .h) (S .stands) (H .firsts) s k
+
+-- so they are active
+pub head-held : {tk : List ℕ} {sm fs : List Float} {rs : List ℕ} {ls : List ℤ} {gs : List Float} {n b used : ℕ} {keeps : Bool} {margin : Float} (S : Situation tk sm fs rs ls gs n b used keeps margin) {counts : Bool} {heads : List ℕ} {all : ℕ} → RankedIs tk sm fs b n counts heads all
+    → {bound : Float} {heads' : List ℕ} {m : ℕ} → HeadsListed tk sm fs rs ls b used counts bound heads heads' all m → (s : ℕ) → s ∈ take m heads' → Held tk b n s
+head-held S R H s i = R .each s (head-ranked S H s i)
 
 -- ---- the stores
 
 module _ {tk : List ℕ} {sm fs : List Float} {rs : List ℕ} {ls : List ℤ} {gs : List Float} {n b used : ℕ} {keeps : Bool} {margin : Float} (A : StoresAsk tk sm fs rs ls gs n b used keeps margin) where
-  chains-of : Chains rs ls used
+  -- the records can be walked back
+  pub chains-of : Chains rs ls used
   chains-of = let w = A .walkable in record { records = w .records; labels = w .labels; prev-low = w .prev-low }
 
+  -- for a state that is active
   state-asks : (s : ℕ) → Held tk b n s → StateAsks tk sm fs b used s
   state-asks s d =
       let i = d .0 in
@@ -96,9 +103,13 @@ module _ {tk : List ℕ} {sm fs : List Float} {rs : List ℕ} {ls : List ℤ} {g
         low = link-in (A .situation) true s d .low;
       }
 
+  pub group-asks : (s : ℕ) → Held tk b n s → GroupAsks tk b used s
+  group-asks s d = named-asks (state-asks s d) (let x = d .0 in let y = A .few in omega arith)
+
   pub own-asks : (s : ℕ) → Held tk b n s → OwnAsks tk sm fs s
   own-asks s d = let a = state-asks s d in record { tokens = a .tokens; sums = a .sums; finals = a .finals }
 
+  -- for the ranking
   pub rank-asks : (counts : Bool) {keys order : List ℕ} → n ≤ length keys → n ≤ length order → RankAsks tk sm fs b n counts keys order
   rank-asks counts k o = record { side = A .side; tokens = A .tokens; sums = A .sums; finals = A .finals; keys-long = k; order-long = o; known = A .known counts }
 
@@ -111,12 +122,10 @@ module _ {tk : List ℕ} {sm fs : List Float} {rs : List ℕ} {ls : List ℤ} {g
           chains = chains-of;
           long = l;
           few = let x = R .few in let y = A .few in omega arith;
-          each = λ i u.
-              let d = R .each (getD own i 0) (subst (λ (xs : List ℕ). getD own i 0 ∈ xs) e (at-front own all i l u)) in
-              let a = state-asks (getD own i 0) d in
-              record { inside = a .tokens; low = a .low; named = ne-eqb (getD own i 0) dropped (λ q. let x = d .0 in let y = A .few in omega arith) };
+          each = λ i u. group-asks (getD own i 0) (R .each (getD own i 0) (subst (λ (xs : List ℕ). getD own i 0 ∈ xs) e (at-front own all i l u)));
         }
 
+    -- for the heads
     pub heads-list-asks : {keys places : ℕ} → n ≤ length heads → n ≤ keys → n ≤ places → HeadsListAsks tk sm fs rs ls b used heads all keys places
     heads-list-asks l k p =
         let S = A .situation in
@@ -135,16 +144,14 @@ module _ {tk : List ℕ} {sm fs : List Float} {rs : List ℕ} {ls : List ℤ} {g
         }
 
     module _ {bound : Float} {heads' : List ℕ} {m : ℕ} (H : HeadsListed tk sm fs rs ls b used counts bound heads heads' all m) where
-      head-held : (s : ℕ) → s ∈ take m heads' → Held tk b n s
-      head-held s i = R .each s (head-ranked (A .situation) H s i)
-
       heads-few : m ≤ n
       heads-few = let x = H .are .few in let y = H .firsts .few in let z = R .few in omega arith
 
+      -- for the lists below them
       pub below-heads-ask : n ≤ length heads' → BelowHeadsAsk tk rs ls b used heads' m
       below-heads-ask l =
           let f = heads-few in
-          let held : (i : ℕ) → i < m → Held tk b n (getD heads' i 0) = λ i u. head-held (getD heads' i 0) (at-front heads' m i (omega arith) u) in
+          let held : (i : ℕ) → i < m → Held tk b n (getD heads' i 0) = λ i u. head-held (A .situation) R H (getD heads' i 0) (at-front heads' m i (omega arith) u) in
           record {
             side = A .side;
             chains = chains-of;
@@ -153,6 +160,7 @@ module _ {tk : List ℕ} {sm fs : List Float} {rs : List ℕ} {ls : List ℤ} {g
             low = λ i u. state-asks (getD heads' i 0) (held i u) .low;
           }
 
+      -- for the map of what they keep
       pub fill-asks : n ≤ length heads' → {lists hs ns : List ℕ} {xs : List Float} {cap entries free : ℕ} → used * 2 ≤ length lists → EntryRoom hs ns xs entries → entries ≤ 0x7fff_fff0
           → BelowIs rs ls gs used margin cap (headLinks tk b heads' m) lists hs ns xs entries free → (free ≡ 0 → ⊥) → {khs kns : List ℕ} {kxs : List Float} {most : ℕ} → Room khs kns kxs most
           → FillAsks tk sm fs rs ls b used heads' m lists hs ns xs khs kns kxs most
@@ -166,7 +174,7 @@ module _ {tk : List ℕ} {sm fs : List Float} {rs : List ℕ} {ls : List ℤ} {g
             lists-long = j;
             room = K;
             each = λ i u.
-                let a = state-asks (getD heads' i 0) (head-held (getD heads' i 0) (at-front heads' m i (omega arith) u)) in
+                let a = state-asks (getD heads' i 0) (head-held S R H (getD heads' i 0) (at-front heads' m i (omega arith) u)) in
                 record {
                   tokens = a .tokens;
                   sums = a .sums;
@@ -182,6 +190,7 @@ module _ {tk : List ℕ} {sm fs : List Float} {rs : List ℕ} {ls : List ℤ} {g
 
 module _ {tk : List ℕ} {sm fs : List Float} {rs : List ℕ} {ls : List ℤ} {gs : List Float} {n b used : ℕ} {margin : Float} (A : StoresAsk tk sm fs rs ls gs n b used true margin) {counts : Bool} {heads : List ℕ} {all : ℕ} (R : RankedIs tk sm fs b n counts heads all)
     {bound : Float} {heads' : List ℕ} {m : ℕ} (H : HeadsListed tk sm fs rs ls b used counts bound heads heads' all m) where
+  -- the stores of those lists
   pub below-asked : {lists hs ns : List ℕ} {xs : List Float} {places : ℕ} → used * 2 ≤ length lists → EntryRoom hs ns xs places → places ≤ 0x7fff_fff0 → BelowAsks rs ls gs used margin (headLinks tk b heads' m) lists hs ns xs places
   below-asked l E few =
       let S = A .situation in
@@ -191,7 +200,7 @@ module _ {tk : List ℕ} {sm fs : List Float} {rs : List ℕ} {ls : List ℤ} {g
         h = S .h;
         stands = S .stands;
         fair = low S (S .margin-is) (A .few-records) true margin 1 (omega arith);
-        links-low = λ k i. let (s, j, e) = map-from (linkOf tk b) (take m heads') k i in let z = state-asks A s (head-held A R H s j) .low in omega arith;
+        links-low = λ k i. let (s, j, e) = map-from (linkOf tk b) (take m heads') k i in let z = state-asks A s (head-held S R H s j) .low in omega arith;
         lists-long = l;
         room = E;
         few = omega arith;
@@ -201,6 +210,7 @@ module _ {tk : List ℕ} {sm fs : List Float} {rs : List ℕ} {ls : List ℤ} {g
 
 module _ {tk : List ℕ} {sm fs : List Float} {rs : List ℕ} {ls : List ℤ} {gs : List Float} {b used : ℕ} {margin : Float} {counts : Bool} {listed : ℕ} {bound : Float} {heads heads' : List ℕ} {all m : ℕ} (H : HeadsListed tk sm fs rs ls b used counts bound heads heads' all m)
     {lists hs ns : List ℕ} {xs : List Float} {places entries free : ℕ} (B : BelowIs rs ls gs used margin (listed + 1) (headLinks tk b heads' m) lists hs ns xs places free) (e : places ≡ entries) where
+  -- the entries did not fit
   pub none-found : free ≡ 0 → {khs kns : List ℕ} {kxs : List Float} {most : ℕ} → FoundIs tk sm fs rs ls gs b used margin counts listed bound heads all hs ns xs entries khs kns kxs most NoPlace
   none-found z = entriesFull heads' m H lists (subst (λ (p : ℕ). BelowIs rs ls gs used margin (listed + 1) (headLinks tk b heads' m) lists hs ns xs p 0) e (subst (λ (f : ℕ). BelowIs rs ls gs used margin (listed + 1) (headLinks tk b heads' m) lists hs ns xs places f) z B))
 
@@ -221,8 +231,10 @@ module _ {tk : List ℕ} {sm fs : List Float} {rs : List ℕ} {ls : List ℤ} {g
           fill = F;
         }
 
+    -- the kept readings did not fit
     pub many-found : most < r → FoundIs tk sm fs rs ls gs b used margin counts listed bound heads all hs ns xs entries khs kns kxs most NoPlace
     many-found l = mapFull r found l
 
+    -- all fitted
     pub all-found : r ≤ most → FoundIs tk sm fs rs ls gs b used margin counts listed bound heads all hs ns xs entries khs kns kxs most (FoundOf r)
     all-found l = areFound r found l

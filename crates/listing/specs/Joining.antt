@@ -7,30 +7,34 @@ use mathlib.Core.List.{List, _∷_, List·Memᴰ·head as here, List·Memᴰ·ta
 use lib.IntN.{ℤ}
 use lib.ListN.{length, getD, take, length-map}
 use lib.Ieee.{Float}
-use borrow.Author.Tests.{ne-eqb}
-use Rattle.lists.specs.Lists.{_∈_, range}
-use Rattle.lists.specs.Members.{keep-from, map-to}
-use Rattle.lists.specs.Order.{perm-sym, perm-member}
+use Rattle.lists.specs.Lists.{_∈_}
+use Rattle.lists.specs.Members.{keep-from}
 use Rattle.model.specs.Basics.{0f}
 use Rattle.model.specs.Readings.{Below}
 use Rattle.traceback.specs.Traced.{numbersOf}
-use Rattle.groups.specs.Places.{range-from, range-to}
-use Rattle.groups.specs.Firsts.{linkAt, dropped, StateAsks, FirstsIs}
+use Rattle.groups.specs.Places.{range-from}
+use Rattle.groups.specs.Firsts.{linkAt, FirstsIs}
+use Rattle.below.specs.Stored.{Decoded}
 use Rattle.routes.specs.Entries.{joinsOf}
 use Rattle.routes.specs.Joins.{numbers-are}
 use Rattle.kept_readings.specs.Kept.{keptIn, Room}
 use Rattle.kept_order.specs.Before.{keptBefore}
 use Rattle.kept_order.specs.Asks.{OrderAsks, OrderIs}
-use Rattle.merged.specs.Items.{OwnAsks, keptFirst, MergeAsks, ListMerged, mergedItems}
+use Rattle.merged.specs.Items.{keptFirst, MergeAsks, ListMerged, mergedItems}
 use Rattle.merged.specs.Drops.{route-tells, KeptAsks}
 use Rattle.merged.specs.Left.{keptStands, ownStands, ownLeft}
 use Rattle.listing_laws.specs.Situation.{Situation, Held}
-use Rattle.listing_laws.specs.Owns.{rankIn, link-in}
+use Rattle.listing_laws.specs.Alike.{at-front}
+use Rattle.listing_laws.specs.Owns.{rankIn, link-in, own-held}
+use Rattle.listing_laws.specs.Sorted.{in-order}
+use Rattle.listing_laws.specs.Whole.{sameTest}
 use Rattle.listing.specs.declared.Counts.{Counts}
-use Rattle.listing.specs.Listed.{sameTest, Slices, WithAsks, WithIs}
+use Rattle.listing.specs.Listed.{Slices, WithAsks, WithIs}
+use Rattle.listing.specs.Rooms.{room-less}
 use Rattle.listing.specs.Settling.{SettleAsks, Settled}
-use Rattle.listing.specs.Owning.{at-front, own-held, at-held, own-keyed, own-apart}
-use Rattle.listing.specs.Keeping.{KeptSound, belows, decoded, belows-few, all-sound}
+use Rattle.listing.specs.Owning.{few-own, at-held, own-keyed, own-apart}
+use Rattle.listing.specs.Finding.{chains-of, group-asks, own-asks}
+use Rattle.listing.specs.Keeping.{KeptSound, belows, decoded, belows-few, sound-at}
 
 -- what is left of the own groups is of them
 pub left-from : (same first : ℕ → ℕ → Bool) (kept own : List ℕ) (s : ℕ) → s ∈ ownLeft same first kept own → s ∈ own
@@ -39,14 +43,17 @@ left-from same first kept (o ∷ own) s (there m) = there (keep-from (ownStands 
 
 -- numbers in order are below n
 pub order-low : {before : ℕ → ℕ → Bool} {n : ℕ} {order : List ℕ} → OrderIs before n order → (i : ℕ) → i ∈ take n order → i < n
-order-low {n = n} O i m = let z = range-from 0 n i (perm-member (perm-sym (O .perm)) i m) .1 in omega arith
+order-low {n = n} O i m = let z = range-from 0 n i (in-order O i m) .1 in omega arith
 
 module _ {tk : List ℕ} {sm fs : List Float} {rs : List ℕ} {ls : List ℤ} {n b used : ℕ} {counts : Bool} {own : List ℕ} {m : ℕ} {ns khs kns : List ℕ} {kxs : List Float} {r : ℕ} {z : Slices} (W : WithAsks tk sm fs rs ls n b used counts own m ns khs kns kxs r z) where
   abbrev S : Situation tk sm fs rs ls (W .gs) n b used true (W .margin)
   S = W .stores .situation
 
   abbrev bs : List Below
-  bs = belows S (W .stores .few-records) counts (W .own-listed .ranked) (W .found) (W .few)
+  bs = belows S (W .found)
+
+  D : Decoded (S .h) used (W .hs) ns (W .xs) bs
+  D = decoded S (W .found)
 
   own-first : FirstsIs tk rs ls b used false (W .own-listed .before) own (W .ranked .all) m
   own-first = subst (FirstsIs tk rs ls b used false (W .own-listed .before) own (W .ranked .all)) (W .own-are) (W .own-listed .firsts)
@@ -55,17 +62,7 @@ module _ {tk : List ℕ} {sm fs : List Float} {rs : List ℕ} {ls : List ℤ} {n
   own-room = let y = W .own-listed .room in let e = W .own-are in omega arith
 
   own-few : m ≤ n
-  own-few = let y = own-first .few in let x = W .own-listed .ranked .few in omega arith
-
-  state-asks : (s : ℕ) → Held tk b n s → StateAsks tk b used s
-  state-asks s d =
-      let l = d .0 in
-      let y = W .stores .tokens in
-      let x = W .stores .few in
-      record { inside = omega arith; low = link-in S counts s d .low; named = ne-eqb s dropped (λ e. omega arith) }
-
-  own-asks : (s : ℕ) → Held tk b n s → OwnAsks tk sm fs s
-  own-asks s d = let l = d .0 in let x = W .stores .tokens in let y = W .stores .sums in let w = W .stores .finals in record { tokens = omega arith; sums = omega arith; finals = omega arith }
+  own-few = let y = few-own (W .own-listed) in let e = W .own-are in omega arith
 
   own-in : (s : ℕ) → s ∈ take m own → Held tk b n s
   own-in = own-held S counts (W .own-listed .ranked) (W .own-listed .copied) own-first
@@ -73,24 +70,24 @@ module _ {tk : List ℕ} {sm fs : List Float} {rs : List ℕ} {ls : List ℤ} {n
   -- ---- kept reading number i
 
   room-to : (i : ℕ) → i < r → Room khs kns kxs (i + 1)
-  room-to i l = let y = W .few in let u = W .room .hashes in let v = W .room .links in let w = W .room .sums in record { hashes = omega arith; links = omega arith; sums = omega arith }
+  room-to i l = let y = W .few in room-less (W .room) (omega arith)
 
   nexts-long : length bs * 3 ≤ length ns
-  nexts-long = belows-few S (W .stores .few-records) counts (W .own-listed .ranked) (W .found) (W .few) (W .nexts)
+  nexts-long = belows-few S (W .found) (W .nexts)
 
   sound : (i : ℕ) → i < r → KeptSound tk rs ls b n used ns bs (keptIn khs kns kxs i)
-  sound i l = all-sound S (W .stores .few-records) counts (W .own-listed .ranked) (W .found) (W .few) (keptIn khs kns kxs i) (map-to (keptIn khs kns kxs) (range 0 r) i (range-to 0 r i (omega arith) (omega arith)))
+  sound = sound-at S (W .found) (W .stores .few-records) (W .own-listed .ranked) (W .few)
 
   joins-few : (i : ℕ) → i < r → length (joinsOf ns (keptIn khs kns kxs i .entry)) ≤ used
   joins-few i l =
       let k = keptIn khs kns kxs i in
       let x = sound i l in
-      let D = decoded S (W .stores .few-records) counts (W .own-listed .ranked) (W .found) (W .few) in
       let e = ap length (numbers-are D (k .entry) (x .entry)) in
       let q : length (numbersOf (S .h) (joinsOf ns (k .entry))) ≡ length (joinsOf ns (k .entry)) = length-map (joinsOf ns (k .entry)) _ in
       let y = x .route in
       omega arith
 
+  -- for their order
   pub order-asks : {keys order : List ℕ} {p q : ℕ} → W .most ≤ length keys → W .most ≤ length order → used ≤ p → used ≤ q → OrderAsks tk rs ls b used ns khs kns kxs r keys order p q
   order-asks {p = p} {q} u v a c =
       let f = W .few in
@@ -104,14 +101,14 @@ module _ {tk : List ℕ} {sm fs : List Float} {rs : List ℕ} {ls : List ℤ} {n
             hs = W .hs;
             xs = W .xs;
             bs = bs;
-            decoded = decoded S (W .stores .few-records) counts (W .own-listed .ranked) (W .found) (W .few);
+            decoded = D;
             nexts = nexts-long;
           };
-          room = let i = W .room .hashes in let j = W .room .links in let k = W .room .sums in record { hashes = omega arith; links = omega arith; sums = omega arith };
+          room = room-less (W .room) f;
           few = omega arith;
           each = λ i l.
               let y = sound i l in
-              let s = state-asks (keptIn khs kns kxs i .state) (y .held) in
+              let s = group-asks (W .stores) (keptIn khs kns kxs i .state) (y .held) in
               let j = joins-few i l in
               record { known = y .known; inside = s .inside; low = s .low; entry = y .entry; len = y .len; first-room = omega arith; second-room = omega arith };
         };
@@ -119,12 +116,12 @@ module _ {tk : List ℕ} {sm fs : List Float} {rs : List ℕ} {ls : List ℤ} {n
         order-long = omega arith;
       }
 
+  -- for the twins of one
   kept-asks : (i : ℕ) → i < r → (route : List ℕ) → used ≤ length route → KeptAsks tk rs ls b used ns khs kns kxs route i
   kept-asks i l route u =
       let k = keptIn khs kns kxs i in
       let y = sound i l in
-      let D = decoded S (W .stores .few-records) counts (W .own-listed .ranked) (W .found) (W .few) in
-      let s = state-asks (k .state) (y .held) in
+      let s = group-asks (W .stores) (k .state) (y .held) in
       record {
         room = room-to i l;
         token = record { inside = s .inside; low = s .low };
@@ -136,6 +133,7 @@ module _ {tk : List ℕ} {sm fs : List Float} {rs : List ℕ} {ls : List ℤ} {n
   -- ---- once they are in order
 
   module _ {order : List ℕ} (O : OrderIs (keptBefore tk rs ls b ns khs kns kxs) r order) (order-long : W .most ≤ length order) where
+    -- for the own groups that go, and the kept readings
     pub settle-asks : {keys places : ℕ} {gone route : List ℕ} → n ≤ keys → n ≤ places → n ≤ length gone → used ≤ length route → SettleAsks tk sm fs rs ls b used own m keys places gone ns khs kns kxs order r route
     settle-asks {route = route} a c d e =
         let few = own-few in
@@ -144,11 +142,10 @@ module _ {tk : List ℕ} {sm fs : List Float} {rs : List ℕ} {ls : List ℤ} {n
         let y = W .most-few in
         let held = at-held S counts (W .own-listed .ranked) (W .own-listed .copied) own-first own-room in
         let low : (j : ℕ) → j < r → getD order j 0 < r = λ j l. order-low O (getD order j 0) (at-front order r j (omega arith) l) in
-        let walk = W .stores .walkable in
         record {
-          states = record { side = W .stores .side; chains = record { records = walk .records; labels = walk .labels; prev-low = walk .prev-low }; long = own-room; few = omega arith; each = λ p l. state-asks (getD own p 0) (held p l) };
-          walk = walk;
-          ranks = λ p l. own-asks (getD own p 0) (held p l);
+          states = record { side = W .stores .side; chains = chains-of (W .stores); long = own-room; few = omega arith; each = λ p l. group-asks (W .stores) (getD own p 0) (held p l) };
+          walk = W .stores .walkable;
+          ranks = λ p l. own-asks (W .stores) (getD own p 0) (held p l);
           keyed = λ p l. own-keyed S counts (getD own p 0) (held p l);
           apart = own-apart S counts (W .own-listed .ranked) (W .own-listed .copied) own-first own-room;
           keys-long = omega arith;
@@ -166,6 +163,7 @@ module _ {tk : List ℕ} {sm fs : List Float} {rs : List ℕ} {ls : List ℤ} {n
     firsts = keptFirst tk sm fs b counts khs kns kxs
 
     module _ {own' order' : List ℕ} {left : Counts} (T : Settled (sameTest rs ls tk b ns khs kns kxs) (keptFirst tk sm fs b counts khs kns kxs) own own' m order order' r left) {list : List ℕ} (list-long : n + W .most ≤ length list) where
+      -- for the merge of what is left
       pub merge-asks : length own' ≡ length own → length order' ≡ length order → MergeAsks tk sm fs b own' (left .own) khs kns kxs order' (left .kept) list
       merge-asks e q =
           let a = T .own-few in
@@ -182,11 +180,12 @@ module _ {tk : List ℕ} {sm fs : List Float} {rs : List ℕ} {ls : List ℤ} {n
             own-long = omega arith;
             order-long = omega arith;
             room = omega arith;
-            owns = λ i l. own-asks (getD own' i 0) (own-in (getD own' i 0) (left-from sames firsts (take r order) (take m own) (getD own' i 0) (subst (λ (xs : List ℕ). getD own' i 0 ∈ xs) (T .owns) (at-front own' (left .own) i (omega arith) l))));
+            owns = λ i l. own-asks (W .stores) (getD own' i 0) (own-in (getD own' i 0) (left-from sames firsts (take r order) (take m own) (getD own' i 0) (subst (λ (xs : List ℕ). getD own' i 0 ∈ xs) (T .owns) (at-front own' (left .own) i (omega arith) l))));
             kepts = λ j l. room-to (getD order' j 0) (low j l);
             few = λ j l. let y = low j l in omega arith;
           }
 
+      -- and what it leaves
       pub with-is : {k : ℕ} → ListMerged (keptFirst tk sm fs b counts khs kns kxs) own' (left .own) order' (left .kept) list k → WithIs tk sm fs rs ls b counts own m ns khs kns kxs r list k
       with-is M =
           let a = T .own-few in

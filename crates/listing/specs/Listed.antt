@@ -10,7 +10,6 @@ use lib.ListN.{length, getD, take}
 use lib.Ieee.{Float, isNan}
 use Rattle.lists.specs.Lists.{keepIf}
 use Rattle.model.specs.Basics.{∞, over}
-use Rattle.model.specs.Path.{sameWords}
 use Rattle.model.specs.Reads.{useFinals}
 use Rattle.model.specs.Readings.{Below, readings}
 use Rattle.tokens.specs.Layout.{heldAt, placeIn}
@@ -27,12 +26,10 @@ use Rattle.kept_readings.specs.Kept.{keptIn, Room}
 use Rattle.kept_readings.specs.Heads.{HeadsAre, FillIs}
 use Rattle.kept_order.specs.Before.{keptBefore}
 use Rattle.kept_order.specs.Asks.{OrderIs}
-use Rattle.merged.specs.Twins.{ownWords}
-use Rattle.merged.specs.Drops.{keptWords}
 use Rattle.merged.specs.Items.{OwnAsks, ownRank, keptFirst, mergedItems}
 use Rattle.merged.specs.Left.{keptStands, ownLeft}
 use Rattle.listing_laws.specs.Situation.{Situation, Held}
-use Rattle.listing_laws.specs.Whole.{itemGroup}
+use Rattle.listing_laws.specs.Whole.{itemGroup, sameTest}
 use Rattle.listing.specs.declared.Ranked.{Ranked}
 use Rattle.listing.specs.declared.KeptFound.{KeptFound}
 use Rattle.listing.specs.declared.KeptFound.the-variants.{Full as NoPlace, Found as IsFound}
@@ -77,6 +74,7 @@ pub record ScratchWide (n used : ℕ) (z : Scratch) : Type 0 where
   pub lists : used * 2 ≤ z .lists
   pub route : used ≤ z .route
 
+-- stores and scratch
 pub record ListingAsks (tk : List ℕ) (sm fs : List Float) (rs : List ℕ) (ls : List ℤ) (gs : List Float) (n b used : ℕ) (keeps : Bool) (margin : Float) (z : Scratch) : Type 0 where
   pub stores : StoresAsk tk sm fs rs ls gs n b used keeps margin
   pub wide : ScratchWide n used z
@@ -119,6 +117,7 @@ pub record OwnListed (tk : List ℕ) (sm fs : List Float) (rs : List ℕ) (ls : 
 
 -- ---- the kept readings
 
+-- the best of each head, and of these the ones that are expanded
 pub record HeadsListed (tk : List ℕ) (sm fs : List Float) (rs : List ℕ) (ls : List ℤ) (b used : ℕ) (counts : Bool) (bound : Float) (heads heads' : List ℕ) (n m : ℕ) : Type 0 where
   pub between : List ℕ
   pub k : ℕ
@@ -151,6 +150,7 @@ pub record Found (tk : List ℕ) (sm fs : List Float) (rs : List ℕ) (ls : List
   pub ksums : List Float
   pub fill : FillIs tk sm fs rs ls b used counts bound heads' m lists hs ns xs hashes links ksums most khs kns kxs r
 
+-- a full store, or how many were found
 pub data FoundIs (tk : List ℕ) (sm fs : List Float) (rs : List ℕ) (ls : List ℤ) (gs : List Float) (b used : ℕ) (margin : Float) (counts : Bool) (listed : ℕ) (bound : Float) (heads : List ℕ) (all : ℕ)
     (hs ns : List ℕ) (xs : List Float) (entries : ℕ) (khs kns : List ℕ) (kxs : List Float) (most : ℕ) : KeptFound → Type 0 where
   entriesFull : (heads' : List ℕ) (m : ℕ) → HeadsListed tk sm fs rs ls b used counts bound heads heads' all m → (lists : List ℕ) → BelowIs rs ls gs used margin (listed + 1) (headLinks tk b heads' m) lists hs ns xs entries 0
@@ -161,10 +161,6 @@ pub data FoundIs (tk : List ℕ) (sm fs : List Float) (rs : List ℕ) (ls : List
       → FoundIs tk sm fs rs ls gs b used margin counts listed bound heads all hs ns xs entries khs kns kxs most (IsFound r)
 
 -- ---- both together
-
--- kept reading i reads as the own group of state s does
-abbrev pub sameTest : List ℕ → List ℤ → List ℕ → (side : ℕ) → (nexts khs kns : List ℕ) → List Float → (i s : ℕ) → Bool
-sameTest rs ls tk b ns khs kns kxs i s = sameWords (keptWords rs ls tk b ns (keptIn khs kns kxs i)) (ownWords rs ls tk b s)
 
 -- lengths of the slices that both are put together in
 pub record Slices : Type 0 where

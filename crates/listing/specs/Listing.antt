@@ -1,39 +1,33 @@
 -- The list of own groups and kept readings is the definition's, for every state that the stores stand for. Assumes nothing.
-use mathlib.Core.Path.{_≡_, refl, sym, ap, ap₂, _∙_, subst}
+use mathlib.Core.Path.{_≡_, refl, sym, ap, _∙_, subst}
 use mathlib.Core.Logic.{_⊎_, inl, inr}
-use Prim.Native.Nat.{ℕ, zero, suc, _+_, _-_, _*_, _≤_, _<_}
+use Prim.Native.Nat.{ℕ, _-_, _*_, _≤_, _<_}
 use native.Mathlib.Omega.{arith}
-use native.Mathlib.Numerals.{add-one}
 use mathlib.Core.Bool.{Bool, true, false, cond}
-use mathlib.Core.Option.{Option, none, some}
 use mathlib.Core.List.{List, [], _∷_, map, List·Memᴰ·head as here, List·Memᴰ·tail as there}
 use lib.IntN.{ℤ}
-use lib.Dec.{ltb}
 use lib.ListN.{length, getD, take}
 use lib.Ieee.{Float}
-use borrow.Author.Tests.{ltb-true, ltb-false}
-use Rattle.lists.specs.Tests.{case, either}
-use Rattle.lists.specs.Lists.{_∈_, keepIf, range}
-use Rattle.lists.specs.Members.{keep-from, map-from, map-to}
+use Rattle.lists.specs.Tests.{case}
+use Rattle.lists.specs.Lists.{_∈_, keepIf}
+use Rattle.lists.specs.Members.{keep-from, map-from}
 use Rattle.lists.specs.Merge.{mergeOne, mergeOf}
-use Rattle.model.specs.Basics.{∞}
-use Rattle.model.specs.Graph.{Graph}
-use Rattle.model.specs.Passes.{State}
-use Rattle.model.specs.Reads.{grouped, useFinals}
-use Rattle.model.specs.Readings.{Below, Readings, rankAt, merged, expanded, plain, readings}
-use Rattle.groups.specs.Places.{range-to}
+use Rattle.model.specs.Reads.{useFinals}
+use Rattle.model.specs.Readings.{Below, readings}
 use Rattle.below.specs.Stored.{standsFor}
 use Rattle.kept_readings.specs.Kept.{keptIn as keptPlace, Room}
-use Rattle.merged.specs.Items.{ownRank, keptFirst, listedKept, mergedItems}
+use Rattle.merged.specs.Items.{keptFirst, listedKept, mergedItems}
 use Rattle.merged.specs.Left.{keptStands, ownLeft}
 use Rattle.listing_laws.specs.Situation.{Situation, Held}
-use Rattle.listing_laws.specs.Known.{keptIn, keptGroups}
-use Rattle.listing_laws.specs.Heads.{bound-at, bound-past}
-use Rattle.listing_laws.specs.Whole.{itemGroup, list-is}
+use Rattle.listing_laws.specs.Alike.{at-front}
+use Rattle.listing_laws.specs.Owns.{own-held}
+use Rattle.listing_laws.specs.Whole.{itemGroup, sameTest, list-is}
 use Rattle.listing.specs.declared.Ranked.{Ranked}
-use Rattle.listing.specs.Listed.{OwnListed, boundOf, Found, sameTest, WithIs, ItemHeld, ListIs}
-use Rattle.listing.specs.Owning.{at-front, own-held}
-use Rattle.listing.specs.Keeping.{belows, decoded, belows-few, all-met, found-known, map-is, all-sound}
+use Rattle.listing.specs.Listed.{OwnListed, boundOf, Found, WithIs, ItemHeld, ListIs}
+use Rattle.listing.specs.Rooms.{room-less}
+use Rattle.listing.specs.Owning.{own-item}
+use Rattle.listing.specs.Keeping.{belows, decoded, belows-few, all-met, found-known, map-is, sound-at}
+use Rattle.listing.specs.Counts.{groups-are}
 use Rattle.listing.specs.Joining.{left-from, order-low}
 
 -- ---- an item
@@ -64,72 +58,47 @@ module _ (first : ℕ → ℕ → Bool) where
   items-from (o ∷ own) kept x (here e) = inl (here e)
   items-from (o ∷ own) kept x (there m) = case (merge-from own kept x m) (λ k. inl (there k)) inr
 
--- ---- the definition's list
-
--- with a margin, and some listed
-readings-are : (g : Graph) (st : State) (f : Bool) (margin : Float) → st .margin ≡ some margin → (listed : ℕ) → 0 < listed → (bound : Float) → bound ≡ rankAt (listed - 1) (grouped g st f)
-    → readings g st f listed .groups ≡ merged (grouped g st f) (keptGroups (keptIn g st f margin bound (listed + 1)))
-unfolding readings expanded
-readings-are g st f margin e zero l bound q = absurd (omega arith)
-readings-are g st f margin e (suc n) l bound q =
-    ap (λ (o : Option Float). (elim o as (λ z. Readings) [ none ↦ plain g st f | some m ↦ expanded g st f (suc n) m ]) .groups) e
-    ∙ ap₂ (λ (x : Float) (cap : ℕ). merged (grouped g st f) (keptGroups (keptIn g st f margin x cap))) (sym q) (sym (add-one (suc n)))
+-- ---- the list
 
 module _ {tk : List ℕ} {sm fs : List Float} {rs : List ℕ} {ls : List ℤ} {gs : List Float} {n b used : ℕ} {margin : Float} (S : Situation tk sm fs rs ls gs n b used true margin) (few-states : n ≤ 65_535) (few-records : used ≤ 1_048_576) (counts f : Bool) (c : counts ≡ useFinals (S .g) (S .st) f)
     {heads own : List ℕ} {ranked : Ranked} (O : OwnListed tk sm fs rs ls b n used counts heads own ranked) {listed : ℕ} (begins : 0 < listed)
-    {hs ns : List ℕ} {xs : List Float} {entries : ℕ} {khs kns : List ℕ} {kxs : List Float} {most r : ℕ} (F : Found tk sm fs rs ls gs b used margin counts listed (boundOf tk sm fs b counts own (ranked .own) listed) heads (ranked .all) hs ns xs entries khs kns kxs most r) (few : r ≤ most) where
-  -- the bound is the definition's
-  pub bound-is : boundOf tk sm fs b counts own (ranked .own) listed ≡ rankAt (listed - 1) (grouped (S .g) (S .st) f)
-  bound-is =
-      case (either (ltb (ranked .own) listed))
-      (λ e.
-      let l = ltb-true (ranked .own) listed e in
-      ap (λ (x : Bool). cond x ∞ (ownRank tk sm fs b counts (getD own (listed - 1) 0))) e ∙ sym (bound-past S counts f c (O .ranked) (O .copied) (O .firsts) (O .room) (listed - 1) (omega arith)))
-      (λ e.
-      let l = ltb-false (ranked .own) listed e in
-      ap (λ (x : Bool). cond x ∞ (ownRank tk sm fs b counts (getD own (listed - 1) 0))) e ∙ sym (bound-at S counts f c (O .ranked) (O .copied) (O .firsts) (O .room) (listed - 1) (omega arith)))
+    {hs ns : List ℕ} {xs : List Float} {entries : ℕ} {khs kns : List ℕ} {kxs : List Float} {most r : ℕ} (F : Found tk sm fs rs ls gs b used margin counts listed (boundOf tk sm fs b counts own (ranked .own) listed) heads (ranked .all) hs ns xs entries khs kns kxs most r) (few : r ≤ most)
+    (nexts : entries * 3 ≤ length ns) (room : Room khs kns kxs most) {list : List ℕ} {k : ℕ} (W : WithIs tk sm fs rs ls b counts own (ranked .own) ns khs kns kxs r list k) where
+  abbrev bs : List Below
+  bs = belows S F
 
-  module _ (nexts : entries * 3 ≤ length ns) (room : Room khs kns kxs most) {list : List ℕ} {k : ℕ} (W : WithIs tk sm fs rs ls b counts own (ranked .own) ns khs kns kxs r list k) where
-    abbrev bs : List Below
-    bs = belows S few-records counts (O .ranked) F few
+  item-held : (x : ℕ) → Item (take (ranked .own) own) (take r (W .order)) x → ItemHeld tk b n used bs khs kns kxs x
+  item-held x (inl m) = own-item few-states x (own-held S counts (O .ranked) (O .copied) (O .firsts) x m)
+  item-held x (inr (i, m, e)) =
+      let low = order-low (W .ordered) i m in
+      let z : i ≡ x - 2_147_483_648 = omega arith in
+      let y = sound-at S F few-records (O .ranked) few i low in
+      record {
+        own = λ u. absurd (omega arith);
+        room = λ u. room-less room (omega arith);
+        kept = λ u. subst (λ (j : ℕ). Held tk b n (keptPlace khs kns kxs j .state)) z (y .held);
+        entry = λ u. subst (λ (j : ℕ). keptPlace khs kns kxs j .entry ≤ length bs) z (y .entry);
+        route = λ u. subst (λ (j : ℕ). length (standsFor bs (keptPlace khs kns kxs j .entry) .route) ≤ used) z (y .route);
+      }
 
-    item-held : (x : ℕ) → Item (take (ranked .own) own) (take r (W .order)) x → ItemHeld tk b n used bs khs kns kxs x
-    item-held x (inl m) =
-        let d = own-held S counts (O .ranked) (O .copied) (O .firsts) x m in
-        let l = d .0 in
-        record { own = λ u. d; room = λ u. absurd (omega arith); kept = λ u. absurd (omega arith); entry = λ u. absurd (omega arith); route = λ u. absurd (omega arith) }
-    item-held x (inr (i, m, e)) =
-        let low = order-low (W .ordered) i m in
-        let z : i ≡ x - 2_147_483_648 = omega arith in
-        let y = all-sound S few-records counts (O .ranked) F few (keptPlace khs kns kxs i) (map-to (keptPlace khs kns kxs) (range 0 r) i (range-to 0 r i (omega arith) (omega arith))) in
-        let p = room .hashes in
-        let q = room .links in
-        let w = room .sums in
-        record {
-          own = λ u. absurd (omega arith);
-          room = λ u. record { hashes = omega arith; links = omega arith; sums = omega arith };
-          kept = λ u. subst (λ (j : ℕ). Held tk b n (keptPlace khs kns kxs j .state)) z (y .held);
-          entry = λ u. subst (λ (j : ℕ). keptPlace khs kns kxs j .entry ≤ length bs) z (y .entry);
-          route = λ u. subst (λ (j : ℕ). length (standsFor bs (keptPlace khs kns kxs j .entry) .route) ≤ used) z (y .route);
-        }
-
-    pub list-right : ListIs S counts f listed hs ns xs khs kns kxs list k
-    list-right =
-        let first = keptFirst tk sm fs b counts khs kns kxs in
-        let same = sameTest rs ls tk b ns khs kns kxs in
-        let left = ownLeft same first (take r (W .order)) (take (ranked .own) own) in
-        let kept = keepIf (keptStands same first (take (ranked .own) own)) (take r (W .order)) in
-        record {
-          bs = bs;
-          decoded = decoded S few-records counts (O .ranked) F few;
-          nexts = belows-few S few-records counts (O .ranked) F few nexts;
-          each = λ i l.
-              let m : getD list i 0 ∈ mergedItems first left kept = subst (λ (ys : List ℕ). getD list i 0 ∈ ys) (W .is) (at-front list k i (W .room) l) in
-              item-held (getD list i 0)
-              (case (items-from first left kept (getD list i 0) m) (λ j. inl (left-from same first (take r (W .order)) (take (ranked .own) own) (getD list i 0) j))
-              (λ j. inr (j .0, keep-from (keptStands same first (take (ranked .own) own)) (take r (W .order)) (j .0) (j .1), j .2)));
-          are = ap (map (itemGroup S counts bs khs kns kxs)) (W .is)
-              ∙ list-is S few-states f counts c (O .ranked) (O .copied) (O .firsts) (O .room) (found-known S few-records counts (O .ranked) F few f c) (decoded S few-records counts (O .ranked) F few) khs kns kxs r (W .order) (W .ordered)
-              (all-met S few-records counts (O .ranked) F few f c (W .order) (W .ordered)) (map-is S few-records counts (O .ranked) F few f c)
-              ∙ sym (readings-are (S .g) (S .st) f margin (S .margin-is) listed begins (boundOf tk sm fs b counts own (ranked .own) listed) bound-is);
-        }
+  -- the items stand for the definition's readings
+  pub list-right : ListIs S counts f listed hs ns xs khs kns kxs list k
+  list-right =
+      let first = keptFirst tk sm fs b counts khs kns kxs in
+      let same = sameTest rs ls tk b ns khs kns kxs in
+      let left = ownLeft same first (take r (W .order)) (take (ranked .own) own) in
+      let kept = keepIf (keptStands same first (take (ranked .own) own)) (take r (W .order)) in
+      record {
+        bs = bs;
+        decoded = decoded S F;
+        nexts = belows-few S F nexts;
+        each = λ i l.
+            let m : getD list i 0 ∈ mergedItems first left kept = subst (λ (ys : List ℕ). getD list i 0 ∈ ys) (W .is) (at-front list k i (W .room) l) in
+            item-held (getD list i 0)
+            (case (items-from first left kept (getD list i 0) m) (λ j. inl (left-from same first (take r (W .order)) (take (ranked .own) own) (getD list i 0) j))
+            (λ j. inr (j .0, keep-from (keptStands same first (take (ranked .own) own)) (take r (W .order)) (j .0) (j .1), j .2)));
+        are = ap (map (itemGroup S counts bs khs kns kxs)) (W .is)
+            ∙ list-is S few-states f counts c (O .ranked) (O .copied) (O .firsts) (O .room) (found-known S F few-records (O .ranked) f c) (decoded S F) khs kns kxs r (W .order) (W .ordered)
+            (all-met S F few-records (O .ranked) f c few (W .order) (W .ordered)) (map-is S F few-records (O .ranked) f c few)
+            ∙ sym (groups-are S few-records counts f c O listed begins);
+      }

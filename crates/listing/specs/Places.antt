@@ -3,6 +3,7 @@ use Prim.Native.Nat.{ℕ, _/_}
 use mathlib.Core.Bool.{cond}
 use lib.Dec.{ltb}
 
+-- the lesser of two
 abbrev pub least : ℕ → ℕ → ℕ
 least a b = cond (ltb b a) b a
 

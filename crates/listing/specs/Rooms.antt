@@ -22,10 +22,16 @@ least-of-four a b c d =
     let z = least-both c d in
     (omega arith, omega arith, omega arith, omega arith)
 
+-- room for fewer
+pub room-less : {hs ns : List ℕ} {xs : List Float} {n m : ℕ} → Room hs ns xs n → m ≤ n → Room hs ns xs m
+room-less R l = let h = R .hashes in let k = R .links in let s = R .sums in record { hashes = omega arith; links = omega arith; sums = omega arith }
+
 module _ (h x s : ℕ) {r : ℕ} (is : r ≡ entryPlaces h x s) where
+  -- numbers of entries fit
   pub entry-few : r ≤ 0x7fff_fff0
   entry-few = let z = least-of-four h (x / 3) (s / 2) 0x7fff_fff0 .3 in omega arith
 
+  -- the stores of entries hold them
   pub entry-room : {hs ns : List ℕ} {xs : List Float} → length hs ≡ h → length ns ≡ x → length xs ≡ s → EntryRoom hs ns xs r
   entry-room p q v =
       let z = least-of-four h (x / 3) (s / 2) 0x7fff_fff0 in
@@ -48,6 +54,7 @@ module _ (h l s k o x : ℕ) {r : ℕ} (is : r ≡ keptPlaces h l s k o x) where
       let y = least-of-four h (l / 4) (s / 2) k in
       record { keys = omega arith; order = omega arith; list = omega arith; numbers = omega arith }
 
+  -- the stores of kept readings hold them
   pub kept-room : {hs ns : List ℕ} {xs : List Float} → length hs ≡ h → length ns ≡ l → length xs ≡ s → Room hs ns xs r
   kept-room p q v =
       let z = least-of-four stored o x 0x7fff_fff0 in

@@ -1,25 +1,24 @@
 -- Own groups and kept readings settled: of each word list one of both stays. What this asks and leaves. Assumes nothing.
-use mathlib.Core.Path.{_≡_, refl, sym, ap, _∙_}
-use Prim.Native.Nat.{ℕ, _+_, _≤_, _<_}
+use mathlib.Core.Path.{_≡_, sym, ap, _∙_}
+use Prim.Native.Nat.{ℕ, _≤_, _<_}
 use native.Mathlib.Omega.{arith}
 use mathlib.Core.Bool.{Bool, false, cond}
-use mathlib.Core.List.{List, map, map-id}
+use mathlib.Core.List.{List}
 use lib.Dec.{eqb}
 use lib.IntN.{ℤ}
-use lib.ListN.{length, getD, take, length-map}
-use lib.Seq.{length-take-le, getD-take, ext-getD}
+use lib.ListN.{length, getD, take}
 use lib.Ieee.{Float}
 use borrow.Author.Tests.{eq-eqb}
 use Rattle.lists.specs.Tests.{case, never, eq-or-not}
-use Rattle.lists.specs.Lists.{keepIf, range}
+use Rattle.lists.specs.Lists.{keepIf}
 use Rattle.model.specs.Hash.{hashWords}
 use Rattle.traceback.specs.Chain.{Walkable}
 use Rattle.histories.specs.Reading.{KeyIs}
 use Rattle.sorting.specs.Moves.{Lent}
 use Rattle.sorting.specs.Sorting.{Sorted}
-use Rattle.below.specs.Maps.{range-at}
-use Rattle.groups.specs.Places.{range-length, PlacesSorted, places-sorted}
+use Rattle.groups.specs.Places.{PlacesSorted}
 use Rattle.groups.specs.Firsts.{linkAt, dropped, StatesAsk, KeysFilled, ClosedUp}
+use Rattle.groups.specs.Laws.{sorted-places}
 use Rattle.merged.specs.Twins.{wordsIn, HashesSorted}
 use Rattle.merged.specs.Items.{OwnAsks}
 use Rattle.merged.specs.Drops.{KeptAsks, DropsAsk, TwinsDropped}
@@ -47,18 +46,11 @@ pub record Settled (same first : ℕ → ℕ → Bool) (own own' : List ℕ) (m 
   pub owns : take (r .own) own' ≡ ownLeft same first (take n order) (take m own)
   pub kepts : take (r .kept) order' ≡ keepIf (keptStands same first (take m own)) (take n order)
 
--- the first n by their places
-by-places : (f : ℕ → ℕ) (n : ℕ) (xs : List ℕ) → n ≤ length xs → ((i : ℕ) → i < n → getD xs i 0 ≡ f i) → take n xs ≡ map f (range 0 n)
-by-places f n xs l e =
-    let z = length-take-le n xs l in
-    ext-getD 0 (take n xs) (map f (range 0 n)) (z ∙ sym (length-map (range 0 n) f ∙ range-length 0 n))
-    (λ i u. let v : i < n = omega arith in getD-take n xs i 0 v ∙ e i v ∙ ap f (let w : i ≡ 0 + i = omega arith in w) ∙ sym (range-at f 0 n i 0 v))
-
 module _ {tk : List ℕ} {sm fs : List Float} {rs : List ℕ} {ls : List ℤ} {b used : ℕ} {own : List ℕ} {m keys places : ℕ} {gone nexts khs kns : List ℕ} {kxs : List Float} {order : List ℕ} {n : ℕ} {route : List ℕ}
     (A : SettleAsks tk sm fs rs ls b used own m keys places gone nexts khs kns kxs order n route) where
   module _ {ks ps : List ℕ} (F : KeysFilled tk rs ls b used false own m ks ps) (ks-long : m ≤ length ks) (ps-long : m ≤ length ps) {ks' ps' : List ℕ} (L : Lent ks' ps' m) (S : Sorted ks ks' ps ps' m) where
     sorted : PlacesSorted (λ (p : ℕ). getD ks p 0) m ks' ps'
-    sorted = places-sorted (λ (p : ℕ). getD ks p 0) m (by-places (λ (p : ℕ). getD ks p 0) m ks ks-long (λ i l. refl)) (by-places (λ (p : ℕ). p) m ps ps-long (F .places) ∙ map-id (range 0 m)) L S
+    sorted = sorted-places (A .states) F ks-long ps-long L S
 
     hashes-sorted : HashesSorted (wordsIn rs ls tk b own) m ks' ps'
     hashes-sorted =
@@ -70,6 +62,7 @@ module _ {tk : List ℕ} {sm fs : List Float} {rs : List ℕ} {ls : List ℤ} {b
           hashes = λ i l. let q = getD ps' i 0 in let u = sorted .inside i l in sorted .key-is i l ∙ A .keyed q u (getD ks q 0) (F .keys q u);
         }
 
+    -- sorted by their hashes, the own groups are found by the words of a kept reading
     pub drops-ask : DropsAsk tk sm fs rs ls b used own m gone ks' ps' nexts khs kns kxs order n route
     drops-ask =
         record {
@@ -89,6 +82,7 @@ module _ {tk : List ℕ} {sm fs : List Float} {rs : List ℕ} {ls : List ℤ} {b
         }
 
   module _ {same first : ℕ → ℕ → Bool} {gone' order' own' own'' order'' : List ℕ} {i j : ℕ} where
+    -- dropped and closed up, those are left that should be
     pub settled : TwinsDropped (λ (i p : ℕ). same i (getD own p 0)) (λ (i p : ℕ). cond (eqb p 0) false (first i (getD own p 0))) m gone' order n order' → length order' ≡ length order
         → GoneDropped own own' gone' m → length own' ≡ length own → ClosedUp own' own'' m i → ClosedUp order' order'' n j → Settled same first own own'' m order order'' n (record { own = i; kept = j })
     settled T o G w C D =

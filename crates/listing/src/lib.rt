@@ -5,8 +5,9 @@ ghost use Prim.Native.Nat.{_-_, _≤_, _<_};
 ghost use lib.Dec.{ltb};
 ghost use lib.ListN.{length};
 ghost use Rattle.merged.specs.Items.{keptFirst};
+ghost use Rattle.listing_laws.specs.Whole.{sameTest};
 ghost use Rattle.listing.specs.Places.{least, entryPlaces, keptPlaces};
-ghost use Rattle.listing.specs.Listed.{scratch, slices, sameTest, ListingAsks, OwnListAsks, Copied, boundOf, BoundAsks, OwnListed, HeadsListed, FindAsks, FoundIs, WithAsks, WithIs, ListingIs};
+ghost use Rattle.listing.specs.Listed.{scratch, slices, ListingAsks, OwnListAsks, Copied, boundOf, BoundAsks, OwnListed, HeadsListed, FindAsks, FoundIs, WithAsks, WithIs, ListingIs};
 ghost use Rattle.listing.specs.Finding.{HeadsListAsks};
 ghost use Rattle.listing.specs.Settling.{SettleAsks, Settled};
 

@@ -1,5 +1,5 @@
 -- The entries that are counted for 15: those that the definition counts. Assumes nothing.
-use mathlib.Core.Path.{_≡_, refl, sym, _∙_, ap, subst}
+use mathlib.Core.Path.{_≡_, sym, _∙_, ap, subst}
 use Prim.Native.Nat.{ℕ}
 use mathlib.Core.Bool.{Bool, true}
 use mathlib.Core.List.{List, [], map, map-map}
@@ -40,5 +40,6 @@ module _ {tk : List ℕ} {sm fs : List Float} {rs : List ℕ} {ls : List ℤ} {g
       subst (λ (r : Ranked). (plain (r .token .path) ≡ true) × timed (r .token .path)) (sym e) (z .own, z .frames))
       ∙ ap (visitedBelow margin cap) histories-are
 
+  -- over the histories of the heads
   pub belows-are : (cap : ℕ) → sum (map (λ (j : ℕ × ℕ). j .1) (firsts (λ (a b : ℕ × ℕ). eqb (a .0) (b .0)) [] (visitedAll margin cap (map (rankIn S counts) (take m heads))))) ≡ entriesBelow margin cap histories
   belows-are cap = ap (λ (vs : List (ℕ × ℕ)). sum (map (λ (j : ℕ × ℕ). j .1) (firsts (λ (a b : ℕ × ℕ). eqb (a .0) (b .0)) [] vs))) (visited-are cap)

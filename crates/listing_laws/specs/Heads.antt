@@ -2,26 +2,21 @@
 use mathlib.Core.Path.{_≡_, refl, sym, _∙_, ap, ap₂, subst}
 use Prim.Native.Nat.{ℕ, zero, suc, _≤_, _<_}
 use native.Mathlib.Omega.{arith}
-use mathlib.Core.Bool.{Bool, true, false, _&&_}
+use mathlib.Core.Bool.{Bool, true, false}
 use mathlib.Core.List.{List, [], _∷_, map}
 use lib.IntN.{ℤ}
-use lib.Dec.{eqb}
 use lib.ListN.{length, getD, take}
 use lib.Seq.{length-take-le, getD-take}
 use lib.Ieee.{Float}
 use Rattle.lists.specs.Lists.{_∈_, keepIf, firsts}
-use Rattle.lists.specs.Members.{at-member, firsts-from, map-to, take-from}
+use Rattle.lists.specs.Members.{map-to}
 use Rattle.model.specs.Basics.{∞}
-use Rattle.model.specs.Path.{sameWords}
-use Rattle.model.specs.Reads.{Ranked, Group, ownGroup, ranked, grouped, useFinals}
-use Rattle.model.specs.Readings.{joinNumber, wordsToJoin, sameHead, heads, rankAt}
+use Rattle.model.specs.Reads.{Ranked, ranked, grouped, useFinals}
+use Rattle.model.specs.Readings.{sameHead, heads, rankAt}
 use Rattle.copy_laws.specs.Ranks.{ranked-at}
-use Rattle.records.specs.History.{History, tag, historyOf}
-use Rattle.stores.specs.Shown.{Is}
+use Rattle.records.specs.History.{tag}
 use Rattle.histories.specs.Reading.{sameReading}
 use Rattle.histories.specs.Laws.{Falls, Numbered, same-head, stands-falls}
-use Rattle.traceback.specs.declared.Best.{Best}
-use Rattle.traceback.specs.Ranks.{candidateAt}
 use Rattle.ranking.specs.Ranked.{RankedIs}
 use Rattle.groups.specs.Firsts.{linkAt, sameStates, FirstsIs}
 use Rattle.below.specs.Maps.{firsts-map}
@@ -30,7 +25,8 @@ use Rattle.kept_readings.specs.Meaning.{Head, stood}
 use Rattle.kept_readings.specs.Model.{isHeadOf, heads-are}
 use Rattle.merged.specs.Items.{rankOf, ownRank}
 use Rattle.listing_laws.specs.Situation.{Situation, Held}
-use Rattle.listing_laws.specs.Owns.{firsts-as, rankIn, groupIn, link-in, ranked-are, own-ranked, grouped-are}
+use Rattle.listing_laws.specs.Alike.{at-front, firsts-as}
+use Rattle.listing_laws.specs.Owns.{firsts-among, rankIn, groupIn, link-in, ranked-are, own-ranked, grouped-are}
 
 module _ {tk : List ℕ} {sm fs : List Float} {rs : List ℕ} {ls : List ℤ} {gs : List Float} {n b used : ℕ} {keeps : Bool} {margin : Float} (S : Situation tk sm fs rs ls gs n b used keeps margin) (counts : Bool) where
   abbrev HeadAt : ℕ → Type 0
@@ -64,8 +60,7 @@ module _ {tk : List ℕ} {sm fs : List Float} {rs : List ℕ} {ls : List ℤ} {g
       bound-at i l =
           let z = length-take-le m own' room in
           let e = getD-take m own' i 0 l in
-          let k : getD own' i 0 ∈ take m own' = subst (λ (s : ℕ). s ∈ take m own') e (at-member (take m own') i 0 (omega arith)) in
-          ap (rankAt i) (grouped-are S counts use-final c R copied F) ∙ rank-at (take m own') i (omega arith) ∙ ap (λ (s : ℕ). rankIn S counts s .rank) e ∙ sym (rank-is (getD own' i 0) (head-in (getD own' i 0) (own-ranked S counts use-final c R copied F (getD own' i 0) k)))
+          ap (rankAt i) (grouped-are S counts use-final c R copied F) ∙ rank-at (take m own') i (omega arith) ∙ ap (λ (s : ℕ). rankIn S counts s .rank) e ∙ sym (rank-is (getD own' i 0) (head-in (getD own' i 0) (own-ranked S counts R copied F (getD own' i 0) (at-front own' m i room l))))
 
       -- none where there is no such group
       pub bound-past : (i : ℕ) → m ≤ i → rankAt i (grouped (S .g) (S .st) use-final) ≡ ∞
@@ -90,8 +85,9 @@ module _ {tk : List ℕ} {sm fs : List Float} {rs : List ℕ} {ls : List ℤ} {g
           (firsts-as (λ (s t : ℕ). sameHead (rankIn S counts s) (rankIn S counts t)) (sameStates (S .h) tk b true) (Held tk b n) head-same [] (take all order) (λ x k. elim k [ ]) (R .each) ∙ sym (F .is gs (S .h) (S .stands)))
 
       first-from : (s : ℕ) → s ∈ take k heads₁ → s ∈ take all order
-      first-from s i = firsts-from (sameStates (S .h) tk b true) [] (take all order) s (subst (λ (xs : List ℕ). s ∈ xs) (F .is gs (S .h) (S .stands)) i)
+      first-from = firsts-among (S .h) (S .stands) F
 
+      -- the heads that were kept are the definition's
       pub heads-right : heads counts bound (ranked (S .g) (S .st) use-final) ≡ map (rankIn S counts) (take m heads₂)
       unfolding heads
       heads-right =

@@ -1,15 +1,12 @@
 -- Two kept readings with the same words are one: words fix hash and length, and the kept map has one reading of each. Assumes nothing.
-use mathlib.Core.Path.{_≡_, refl, sym, ap, ap₂, _∙_, subst}
+use mathlib.Core.Path.{_≡_, sym, ap, _∙_, subst}
 use Prim.Native.Nat.{ℕ}
-use mathlib.Core.Bool.{Bool, true, not, _&&_}
-use mathlib.Core.List.{List, [], _∷_, map, reverse, List·Memᴰ·head as here, List·Memᴰ·tail as there}
+use mathlib.Core.Bool.{Bool, true, not}
+use mathlib.Core.List.{List, [], map, map-map, reverse}
 use lib.ListN.{length}
 use lib.IntN.{ℤ}
 use lib.Ieee.{Float}
-use borrow.Author.Tests.{eq-eqb}
-use Rattle.lists.specs.Tests.{never}
 use Rattle.lists.specs.Lists.{_∈_, keepIf, sortBy}
-use Rattle.lists.specs.Members.{map-from}
 use Rattle.lists.specs.Firsts.{Apart, firsts-are}
 use Rattle.lists.specs.Count.{Nodup}
 use Rattle.model.specs.Basics.{_≼_, 0f}
@@ -25,27 +22,9 @@ use Rattle.copy_laws.specs.Ranks.{ranked-at}
 use Rattle.copy_laws.specs.Listed.{kept-by}
 use Rattle.copy_laws.specs.Below.{wordsBackAlong, Keyed, below-keyed}
 use Rattle.copy_laws.specs.Distinct.{groupWords}
+use Rattle.listing_laws.specs.Alike.{apart-names}
 use Rattle.listing_laws.specs.Known.{keptIn, keptGroups}
-
--- ---- lists whose members are apart
-
-module _ {A : Type 0} (same : A → A → Bool) where
-  apart-one : (xs : List A) → Apart same xs → (x y : A) → x ∈ xs → y ∈ xs → same x y ≡ true → same y x ≡ true → x ≡ y
-  apart-one (z ∷ xs) a x y (here p) (here q) e f = p ∙ sym q
-  apart-one (z ∷ xs) a x y (here p) (there n) e f = never (sym (a .0 y n) ∙ ap (same y) (sym p) ∙ f)
-  apart-one (z ∷ xs) a x y (there m) (here q) e f = never (sym (a .0 x m) ∙ ap (same x) (sym q) ∙ e)
-  apart-one (z ∷ xs) a x y (there m) (there n) e f = apart-one xs (a .1) x y m n e f
-
-  -- so no name comes twice, if two of one name are the same
-  apart-names : {B C : Type 0} (f : A → B) (name : B → C) (xs : List A) → ((x y : A) → x ∈ xs → y ∈ xs → name (f x) ≡ name (f y) → same x y ≡ true) → Apart same xs → Nodup (map name (map f xs))
-  apart-names f name [] h a = tt
-  apart-names f name (x ∷ xs) h a = (
-    λ m.
-        let (b, n, e) = map-from name (map f xs) (name (f x)) m in
-        let (y, k, q) = map-from f xs b n in
-        never (sym (a .0 y k) ∙ h y x (there k) (here refl) (ap name (sym q) ∙ sym e)),
-    apart-names f name xs (λ y z m n. h y z (there m) (there n)) (a .1),
-  )
+use Rattle.listing_laws.specs.Once.{key-of}
 
 -- ---- the kept map
 
@@ -72,9 +51,7 @@ module _ {g : Graph} {fs : List Heard} {st : State} (h : Standing g fs st) (f : 
 
   words-key : (k j : Kept) → k ∈ keptIn g st f margin bound cap → j ∈ keptIn g st f margin bound cap → keptGroup k .words ≡ keptGroup j .words → sameKept k j ≡ true
   words-key k j m n e =
-      let a = eq-eqb (k .key .hash) (j .key .hash) (kept-hash k m ∙ ap (λ (w : List ℤ). hashWords (reverse w)) e ∙ sym (kept-hash j n)) in
-      let b = eq-eqb (k .key .len) (j .key .len) (kept-len k m ∙ ap (λ (w : List ℤ). length (reverse w)) e ∙ sym (kept-len j n)) in
-      ap₂ (λ (x y : Bool). x && y) a b
+      key-of (k .key) (j .key) (kept-hash k m ∙ ap (λ (w : List ℤ). hashWords (reverse w)) e ∙ sym (kept-hash j n)) (kept-len k m ∙ ap (λ (w : List ℤ). length (reverse w)) e ∙ sym (kept-len j n))
 
   map-apart : Apart sameKept (keptIn g st f margin bound cap)
   unfolding keptMap
@@ -83,8 +60,8 @@ module _ {g : Graph} {fs : List Heard} {st : State} (h : Standing g fs st) (f : 
       let ks = keptBelow finals margin cap (heads finals bound (ranked g st f)) in
       firsts-are sameKept [] (sortBy (λ (a b : Kept). sooner (a .ranked) (b .ranked)) (keepIf (λ (k : Kept). not (bound ≼ k .ranked .rank)) ks)) .apart
 
-  pub kept-apart : (k j : Kept) → k ∈ keptIn g st f margin bound cap → j ∈ keptIn g st f margin bound cap → keptGroup k .words ≡ keptGroup j .words → k ≡ j
-  kept-apart k j m n e = apart-one sameKept (keptIn g st f margin bound cap) map-apart k j m n (words-key k j m n e) (words-key j k n m (sym e))
-
+  -- so no words come twice
   pub kept-distinct : Nodup (groupWords (keptGroups (keptIn g st f margin bound cap)))
-  kept-distinct = apart-names sameKept keptGroup (λ (x : Group). x .words) (keptIn g st f margin bound cap) words-key map-apart
+  kept-distinct =
+      let ks = keptIn g st f margin bound cap in
+      subst Nodup (sym (map-map (λ (x : Group). x .words) keptGroup ks)) (apart-names sameKept (λ (k : Kept). keptGroup k .words) ks words-key map-apart)

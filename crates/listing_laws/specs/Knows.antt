@@ -1,44 +1,42 @@
 -- What a situation knows of the readings that merges kept: numbers, ranks and routes. Assumes nothing.
-use mathlib.Core.Path.{_≡_, refl, sym, ap, _∙_, subst}
-use Prim.Native.Nat.{ℕ, _^_, _≤_, _<_}
+use mathlib.Core.Path.{_≡_, sym, ap, _∙_, subst}
+use Prim.Native.Nat.{ℕ, _≤_, _<_}
 use native.Mathlib.Omega.{arith}
-use mathlib.Core.Bool.{Bool, true, false, not}
-use mathlib.Core.Option.{Option, none, some}
-use mathlib.Core.List.{List, [], _∷_, tail, List·Memᴰ·head as here, List·Memᴰ·tail as there}
+use mathlib.Core.Bool.{Bool}
+use mathlib.Core.Option.{Option, some}
+use mathlib.Core.List.{List, [], tail}
 use lib.Dec.{T}
 use lib.IntN.{ℤ}
-use lib.ListN.{length, getD}
+use lib.ListN.{length}
 use lib.Ieee.{Float}
-use Rattle.lists.specs.Lists.{_∈_, keepIf, sortBy}
-use Rattle.lists.specs.Members.{sort-from, firsts-from}
-use Rattle.real32.specs.Order.{real, finite-real}
+use Rattle.lists.specs.Lists.{_∈_, keepIf}
+use Rattle.real32.specs.Order.{real}
 use Rattle.real32.specs.Small.{huge}
 use Rattle.model.specs.Basics.{_≺_, _≼_, 0f}
 use Rattle.model.specs.Graph.{Graph}
 use Rattle.model.specs.Path.{Path, emptyPath, arcOn, branchOn, Token}
 use Rattle.model.specs.Reads.{Ranked, rankOne, ranked, useFinals}
-use Rattle.model.specs.Readings.{Below, below, sameKey, heads, Kept, keptOf, keptBelow, keptMap}
+use Rattle.model.specs.Readings.{Below, below, heads, keptOf, keptBelow}
 use Rattle.copy_laws.specs.Walks.{Heard}
 use Rattle.copy_laws.specs.Tables.{At, at-length}
 use Rattle.copy_laws.specs.Shapes.{Forks, Differences, differences}
-use Rattle.copy_laws.specs.Ranks.{ranked-at, ranked-sure, sure-finite}
-use Rattle.copy_laws.specs.Bounds.{Few, below-bounded}
-use Rattle.copy_laws.specs.Costs.{fair-margin, SureReading, kept-sure}
-use Rattle.records.specs.History.{historyOf}
-use Rattle.stores.specs.Shown.{Is, Shows, showsNone, showsToken}
+use Rattle.copy_laws.specs.Ranks.{ranked-at}
+use Rattle.copy_laws.specs.Listed.{kept-by}
+use Rattle.copy_laws.specs.Costs.{fair-margin}
+use Rattle.stores.specs.Shown.{Is, Shows, showsToken}
 use Rattle.histories.specs.Laws.{Numbered}
 use Rattle.stores.specs.Tables.{active-at}
 use Rattle.ranking.specs.Ranked.{tokenIn}
 use Rattle.below.specs.Lists.{belowOf, Dearer}
 use Rattle.below.specs.Paths.{below-history, dearer-of}
 use Rattle.below.specs.Lengths.{below-route}
-use Rattle.below.specs.Owned.{OwnFirst, below-own-first}
+use Rattle.below.specs.Owned.{below-own-first}
 use Rattle.kept_readings.specs.Meaning.{keptWithin}
-use Rattle.kept_readings.specs.Whole.{sameWordsKept, soonerOfKept, keptRank, Orderly}
+use Rattle.kept_readings.specs.Whole.{keptRank, Orderly}
 use Rattle.listing_laws.specs.Situation.{Situation, Held}
-use Rattle.listing_laws.specs.Known.{Known}
+use Rattle.listing_laws.specs.Known.{kept-key, way-has-rank, Known}
 use Rattle.listing_laws.specs.Owns.{rankIn}
-use Rattle.listing_laws.specs.Orderly.{KeptFrom, tail-from, met-from, orderly}
+use Rattle.listing_laws.specs.Orderly.{orderly}
 
 -- a path's newest branch has a number
 numbered-of : (g : Graph) (fs : List Heard) (p : Path) → Forks g fs p → Numbered p
@@ -54,6 +52,7 @@ module _ {tk : List ℕ} {sm fs : List Float} {rs : List ℕ} {ls : List ℤ} {g
       go : {c : _} → Shows (S .h) used c (some t) → (l : ℕ) × Is (S .h) used l (t .path)
       go (showsToken y q i) = (y .link, i .link)
 
+  -- so an active state's token has it
   pub numbered : (counts : Bool) (s : ℕ) → Held tk b n s → Numbered (rankIn S counts s .token .path)
   unfolding rankOne
   numbered counts s (l, d) =
@@ -64,6 +63,7 @@ module _ {tk : List ℕ} {sm fs : List Float} {rs : List ℕ} {ls : List ℤ} {g
     up : T (0f ≼ margin)
     up = fair-margin (S .g) (S .heard) (S .st) (S .standing) margin has-margin .0
 
+    -- the margin is small
     pub low : T (margin ≺ huge)
     low = fair-margin (S .g) (S .heard) (S .st) (S .standing) margin has-margin .1
 
@@ -86,34 +86,21 @@ module _ {tk : List ℕ} {sm fs : List Float} {rs : List ℕ} {ls : List ℤ} {g
           omega arith
 
       -- but by the first way some
-      pub route-some : (w : Below) → w ∈ tail (below margin cap (r .token .path)) → w .route ≡ [] → ⊥
+      route-some : (w : Below) → w ∈ tail (below margin cap (r .token .path)) → w .route ≡ [] → ⊥
       route-some w k =
           let i = where-is .1 in
           let o = below-own-first margin low up cap some-cap (S .h (where-is .0)) (subst Dearer (sym (i .is)) (dearer-of (r .token .path) apart)) in
           o .routed w (subst (λ (l : List Below). w ∈ tail l) (listed-is ∙ o .is) k)
 
-      pub rank-real : (finals : Bool) → finals ≡ useFinals (S .g) (S .st) f → (w : Below) → w ∈ below margin cap (r .token .path) → T (real (keptRank (keptOf finals r w)))
-      unfolding keptOf
-      rank-real finals e w k =
-          let s = kept-sure finals margin up low r w (ranked-sure (S .g) (S .good) (S .floats) (S .heard) (S .st) (S .standing .active) f r m) (below-bounded margin up low cap (r .token .path) apart w k) in
-          finite-real (keptRank (keptOf finals r w)) (sure-finite 127 (keptRank (keptOf finals r w)) (s .rank (let z = route-few w k in omega arith)))
+      rank-real : (finals : Bool) (w : Below) → w ∈ below margin cap (r .token .path) → T (real (keptRank (keptOf finals r w)))
+      rank-real finals w k = way-has-rank (S .g) (S .good) (S .floats) (S .heard) (S .st) (S .standing) margin has-margin f finals cap r m w k (let z = route-few w k in omega arith)
 
+    -- what the heads keep has ranks, and no two of one key are level
     pub met-orderly : Orderly (keepIf (keptWithin bound) (keptBelow (useFinals (S .g) (S .st) f) margin cap (heads (useFinals (S .g) (S .st) f) bound (ranked (S .g) (S .st) f))))
     met-orderly =
-        orderly (S .g) (S .good) (S .floats) (S .heard) (S .st) (S .standing .active) f (useFinals (S .g) (S .st) f) margin bound cap (λ r m w k. rank-real r m (useFinals (S .g) (S .st) f) refl w k)
+        orderly (S .g) (S .good) (S .floats) (S .heard) (S .st) (S .standing .active) f (useFinals (S .g) (S .st) f) margin bound cap (λ r m. rank-real r m (useFinals (S .g) (S .st) f))
 
-    -- of the map
-    map-from-met : (k : Kept) → k ∈ keptMap (useFinals (S .g) (S .st) f) margin bound cap (heads (useFinals (S .g) (S .st) f) bound (ranked (S .g) (S .st) f)) → KeptFrom (useFinals (S .g) (S .st) f) margin cap (ranked (S .g) (S .st) f) k
-    unfolding keptMap
-    map-from-met k m =
-        let ks = keepIf (keptWithin bound) (keptBelow (useFinals (S .g) (S .st) f) margin cap (heads (useFinals (S .g) (S .st) f) bound (ranked (S .g) (S .st) f))) in
-        met-from (S .g) (S .good) (S .floats) (S .heard) (S .st) (S .standing .active) f (useFinals (S .g) (S .st) f) margin bound cap (λ r m w k. rank-real r m (useFinals (S .g) (S .st) f) refl w k) k
-        (sort-from soonerOfKept ks k (firsts-from sameWordsKept [] (sortBy soonerOfKept ks) k m))
-
-    key-is : (c : Bool) (r : Ranked) (w : Below) → keptOf c r w .key ≡ w
-    unfolding keptOf
-    key-is c r w = refl
-
+    -- and so do the routes
     pub known : Known (S .g) (S .heard) (S .st) f margin bound cap
     known =
         record {
@@ -122,13 +109,11 @@ module _ {tk : List ℕ} {sm fs : List Float} {rs : List ℕ} {ls : List ℤ} {g
           standing = S .standing;
           has-margin = has-margin;
           few = λ k m.
-              let d = map-from-met k m in
-              let e : k .key ≡ d .way = ap (λ (x : Kept). x .key) (d .is) ∙ key-is (useFinals (S .g) (S .st) f) (d .head) (d .way) in
-              let z = route-few (d .head) (d .among) (d .way) (tail-from (below margin cap (d .head .token .path)) (d .way) (d .behind)) in
-              let y = ap (λ (x : Below). length (x .route)) e in
+              let d = kept-by (S .g) (S .st) f margin bound cap k m in
+              let z = route-few (d .head) (d .among) (d .way) (d .below) in
+              let y = ap (λ (x : Below). length (x .route)) (kept-key d) in
               omega arith;
           routed = λ k m q.
-              let d = map-from-met k m in
-              let e : k .key ≡ d .way = ap (λ (x : Kept). x .key) (d .is) ∙ key-is (useFinals (S .g) (S .st) f) (d .head) (d .way) in
-              route-some (d .head) (d .among) (d .way) (d .behind) (ap (λ (x : Below). x .route) (sym e) ∙ q);
+              let d = kept-by (S .g) (S .st) f margin bound cap k m in
+              route-some (d .head) (d .among) (d .way) (d .behind) (ap (λ (x : Below). x .route) (sym (kept-key d)) ∙ q);
         }

@@ -1,5 +1,6 @@
--- What the stores of a reading list stand for, and why own groups and kept readings, merged, are the definition’s list.
+-- What the stores of a reading list stand for, and why own groups and kept readings, merged, are the definition's list.
 pub mod Situation
+pub mod Alike
 pub mod Merged
 pub mod Ordering
 pub mod Known

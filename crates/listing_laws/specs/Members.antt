@@ -1,10 +1,10 @@
 -- Every kept reading in the map is of a head, by an entry that was put, with its token's seq. Assumes nothing.
 use mathlib.Core.Path.{_≡_, refl, sym, ap, _∙_, subst}
 use mathlib.Core.Logic.{_⊎_, inl, inr}
-use Prim.Native.Nat.{ℕ, suc, _+_, _-_, _≤_, _<_}
+use Prim.Native.Nat.{ℕ, _+_, _-_, _≤_, _<_}
 use native.Mathlib.Omega.{arith}
 use mathlib.Core.Bool.{Bool, true, false, cond}
-use mathlib.Core.List.{List, [], _∷_, _++_, map, List·Memᴰ·head as here, List·Memᴰ·tail as there, List·Memᴰ·append-cases}
+use mathlib.Core.List.{List, [], _∷_, map, List·Memᴰ·head as here, List·Memᴰ·tail as there, List·Memᴰ·append-cases}
 use lib.IntN.{ℤ}
 use lib.ListN.{take}
 use lib.Ieee.{Float}
@@ -20,7 +20,7 @@ use Rattle.below.specs.Stored.{firstAt, countAt}
 use Rattle.below.specs.Short.{Short}
 use Rattle.below.specs.Maps.{range-member}
 use Rattle.kept_readings.specs.declared.KeptReading.{KeptReading}
-use Rattle.kept_readings.specs.Kept.{keptList, sameKept, soonerKept, addTo, allFrom, allOf, Added, areAdded, areMore, ranksBelow, within}
+use Rattle.kept_readings.specs.Kept.{keptList, sameKept, soonerKept, addTo, allFrom, Added, areAdded, areMore, ranksBelow, within}
 use Rattle.kept_readings.specs.Heads.{keptBy, keptFrom, keptUnder, HeadsKept, noHeads, headOn, FillIs}
 use Rattle.kept_readings.specs.Meaning.{Head, stood}
 use Rattle.listing_laws.specs.Situation.{Situation}
@@ -44,11 +44,12 @@ module _ {A : Type 0} (same sooner : A → A → Bool) where
       go false b (here e) rec = inr (here e)
       go false b (there i) rec = later (rec i)
 
-  pub all-from : (xs ks : List A) (x : A) → x ∈ allFrom same sooner xs ks → (x ∈ xs) ⊎ (x ∈ ks)
+  all-from : (xs ks : List A) (x : A) → x ∈ allFrom same sooner xs ks → (x ∈ xs) ⊎ (x ∈ ks)
   all-from xs [] x m = inl m
   all-from xs (k ∷ ks) x m = case (all-from (addTo same sooner k xs) ks x m) (λ i. case (add-from k xs x i) (λ e. inr (here e)) inl) (λ i. inr (there i))
 
 module _ {tk : List ℕ} {sm fs : List Float} {rs : List ℕ} {ls : List ℤ} {gs : List Float} {n b used : ℕ} {keeps : Bool} {margin : Float} (S : Situation tk sm fs rs ls gs n b used keeps margin) (counts : Bool) where
+  -- of one of these states, by an entry below e
   pub record KeptHeld (ss : List ℕ) (e : ℕ) (k : KeptReading) : Type 0 where
     pub state-in : k .state ∈ ss
     pub entry-low : k .entry < e
@@ -79,6 +80,7 @@ module _ {tk : List ℕ} {sm fs : List Float} {rs : List ℕ} {ls : List ℤ} {g
         record { state-in = here (z .0); entry-low = z .1; seq = z .2 ∙ ap (λ (t : ℕ). rankIn S counts t .token .seq) (sym (z .0)) })
         (λ i. let z = heads-held ss js (λ t j. d t (there j)) Ks k i in record { state-in = there (z .state-in); entry-low = z .entry-low; seq = z .seq })
 
+    -- every one in the map
     pub kept-held : {heads : List ℕ} {m : ℕ} {khs kns : List ℕ} {kxs : List Float} {places : ℕ} {khs' kns' : List ℕ} {kxs' : List Float} {r : ℕ} (F : FillIs tk sm fs rs ls b used counts bound heads m lists hs ns xs khs kns kxs places khs' kns' kxs' r)
         → ((s : ℕ) → s ∈ take m heads → Head (S .g) tk b n counts (S .st .table) s × (linkAt tk b s ≤ used)) → r ≤ places → (k : KeptReading) → k ∈ keptList khs' kns' kxs' r → KeptHeld (take m heads) next k
     kept-held {heads} {m} {khs} {kns} {kxs} {places} {khs'} {kns'} {kxs'} {r} F d l k i = subst (λ (j : ℕ). KeptHeld (take j heads) next k) (F .all l) (go (F .added))

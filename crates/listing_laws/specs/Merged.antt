@@ -1,8 +1,7 @@
--- Two sorted lists, in each of which no key comes twice, and one entry before them: of each key the first of all, sorted. An entry of one list goes where the other has one of
--- its key before it. Assumes nothing.
+-- Two sorted lists, in each of which no key comes twice, and one entry before them: of each key the first of all, sorted, is what is left where an entry goes that the other list has one of its key before. Assumes nothing.
 use mathlib.Core.Path.{_≡_, refl, sym, ap, _∙_, subst}
 use mathlib.Core.Logic.{_⊎_, inl, inr}
-use mathlib.Core.Bool.{Bool, true, false, not, _&&_, cond}
+use mathlib.Core.Bool.{Bool, true, false, not, _&&_}
 use mathlib.Core.List.{List, [], _∷_, _++_, map, List·Memᴰ·head as here, List·Memᴰ·tail as there, List·Memᴰ·append-cases, Memᴰ·append-left, Memᴰ·append-right}
 use borrow.Author.Tests.{not-true}
 use Rattle.lists.specs.Tests.{case, either, never, and-both}
@@ -11,42 +10,21 @@ use Rattle.lists.specs.Members.{any-no, any-some, keep-from, keep-passes, keep-
 use Rattle.lists.specs.Order.{Sorted, Strict, sort-sorted, sort-to}
 use Rattle.lists.specs.Firsts.{firsts-are}
 use Rattle.lists.specs.Count.{Nodup}
-use Rattle.copy_laws.specs.Minima.{sort-nodup, sublist-sorted, sorted-same, sameKeyed, apart-nodup, first-least}
+use Rattle.copy_laws.specs.Minima.{sort-nodup, sublist-sorted, sorted-same, nodup-map, sameKeyed, apart-nodup, first-least}
+use Rattle.listing_laws.specs.Alike.{nodup-keep, nodup-append, one-of}
 
 module _ {A K : Type 0} (key : A → K) (alike : K → K → Bool) (alike-is : (j k : K) → alike j k ≡ true → j ≡ k) (alike-refl : (j k : K) → j ≡ k → alike j k ≡ true) (before : A → A → Bool) where
   -- an entry of the list has x's key and comes before it
   abbrev pub beaten : List A → A → Bool
   beaten ys x = any (λ y. alike (key x) (key y) && before y x) ys
 
+  -- those that none of the other list beats
   abbrev pub unbeaten : (ys xs : List A) → List A
   unbeaten ys xs = keepIf (λ x. not (beaten ys x)) xs
 
   -- and none has the first one's key
   abbrev pub apartFrom : A → List A → List A
   apartFrom g xs = keepIf (λ x. not (alike (key x) (key g))) xs
-
-  nodup-keys : (ys : List A) → Nodup (map key ys) → Nodup ys
-  nodup-keys [] n = tt
-  nodup-keys (y ∷ ys) n = (λ m. n .0 (map-to key ys y m), nodup-keys ys (n .1))
-
-  nodup-keep : (p : A → Bool) (xs : List A) → Nodup xs → Nodup (keepIf p xs)
-  nodup-keep p [] n = tt
-  nodup-keep p (x ∷ xs) n = go (p x) (nodup-keep p xs (n .1))
-    where
-      go : (b : Bool) → Nodup (keepIf p xs) → Nodup (cond b (x ∷ keepIf p xs) (keepIf p xs))
-      go true r = (λ m. n .0 (keep-from p xs x m), r)
-      go false r = r
-
-  nodup-append : (xs ys : List A) → Nodup xs → Nodup ys → ((x : A) → x ∈ xs → x ∈ ys → ⊥) → Nodup (xs ++ ys)
-  nodup-append [] ys n m d = m
-  nodup-append (x ∷ xs) ys n m d = (λ k. case (List·Memᴰ·append-cases xs k) (n .0) (d x (here refl)), nodup-append xs ys (n .1) m (λ y k. d y (there k)))
-
-  -- one entry of a key in a list without repetition
-  pub one-of : (xs : List A) → Nodup (map key xs) → (x y : A) → x ∈ xs → y ∈ xs → key x ≡ key y → x ≡ y
-  one-of (z ∷ xs) n x y (here p) (here q) e = p ∙ sym q
-  one-of (z ∷ xs) n x y (here p) (there k) e = absurd (n .0 (subst (λ (j : K). j ∈ map key xs) (sym e ∙ ap key p) (map-to key xs y k)))
-  one-of (z ∷ xs) n x y (there m) (here q) e = absurd (n .0 (subst (λ (j : K). j ∈ map key xs) (e ∙ ap key q) (map-to key xs x m)))
-  one-of (z ∷ xs) n x y (there m) (there k) e = one-of xs (n .1) x y m k e
 
   module _ (P : A → Type 0) (strict : Strict P before) (g : A) (xs ys : List A) (ps : (x : A) → x ∈ (xs ++ ys) → P x) (xs-apart : Nodup (map key (g ∷ xs))) (ys-apart : Nodup (map key ys))
       (total : (x y : A) → x ∈ (xs ++ ys) → y ∈ (xs ++ ys) → before x y ≡ false → before y x ≡ false → x ≡ y) (differ : (x y : A) → x ∈ xs → y ∈ ys → x ≡ y → ⊥) where
@@ -114,7 +92,7 @@ module _ {A K : Type 0} (key : A → K) (alike : K → K → Bool) (alike-is : (
             let k = keep-from (λ x. not (beaten ys x)) xs x n in
             let b = not-true (beaten ys x) (keep-passes (λ x. not (beaten ys x)) xs x n) in
             itself x (Memᴰ·append-left ys k) (λ e. xs-apart .0 (subst (λ (j : K). j ∈ map key xs) e (map-to key xs x k)))
-            (λ y i e. case (List·Memᴰ·append-cases xs (from-all y i)) (λ l. one-of xs (xs-apart .1) x y k l e) (λ l. level ys x y (Memᴰ·append-left ys k) i l b e))
+            (λ y i e. case (List·Memᴰ·append-cases xs (from-all y i)) (λ l. one-of key xs (xs-apart .1) x y k l e) (λ l. level ys x y (Memᴰ·append-left ys k) i l b e))
 
         other : x ∈ unbeaten xs (apartFrom g ys) → x ∈ found
         other n =
@@ -123,12 +101,12 @@ module _ {A K : Type 0} (key : A → K) (alike : K → K → Bool) (alike-is : (
             let b = not-true (beaten xs x) (keep-passes (λ x. not (beaten xs x)) (apartFrom g ys) x n) in
             let a = not-true (alike (key x) (key g)) (keep-passes (λ x. not (alike (key x) (key g))) ys x j) in
             itself x (Memᴰ·append-right xs k) (λ e. never (sym a ∙ alike-refl (key x) (key g) e))
-            (λ y i e. case (List·Memᴰ·append-cases xs (from-all y i)) (λ l. level xs x y (Memᴰ·append-right xs k) i l b e) (λ l. one-of ys ys-apart x y k l e))
+            (λ y i e. case (List·Memᴰ·append-cases xs (from-all y i)) (λ l. level xs x y (Memᴰ·append-right xs k) i l b e) (λ l. one-of key ys ys-apart x y k l e))
 
     nodup-left : Nodup left
     nodup-left =
-        nodup-append (unbeaten ys xs) (unbeaten xs (apartFrom g ys)) (nodup-keep (λ x. not (beaten ys x)) xs (nodup-keys xs (xs-apart .1)))
-        (nodup-keep (λ x. not (beaten xs x)) (apartFrom g ys) (nodup-keep (λ x. not (alike (key x) (key g))) ys (nodup-keys ys ys-apart)))
+        nodup-append (unbeaten ys xs) (unbeaten xs (apartFrom g ys)) (nodup-keep (λ x. not (beaten ys x)) xs (nodup-map key xs (xs-apart .1)))
+        (nodup-keep (λ x. not (beaten xs x)) (apartFrom g ys) (nodup-keep (λ x. not (alike (key x) (key g))) ys (nodup-map key ys ys-apart)))
         (λ x m n. differ x x (keep-from (λ x. not (beaten ys x)) xs x m) (keep-from (λ x. not (alike (key x) (key g))) ys x (keep-from (λ x. not (beaten xs x)) (apartFrom g ys) x n)) refl)
 
     left-inside : (x : A) → x ∈ left → x ∈ (xs ++ ys)
@@ -138,5 +116,5 @@ module _ {A K : Type 0} (key : A → K) (alike : K → K → Bool) (alike-is : (
     pub merged-is : firsts (sameKeyed key alike alike-is alike-refl) (g ∷ []) (sortBy before (xs ++ ys)) ≡ sortBy before (unbeaten ys xs ++ unbeaten xs (apartFrom g ys))
     merged-is =
         sorted-same before found (sortBy before left) (sublist-sorted before found all (firsts-are (sameKeyed key alike alike-is alike-refl) (g ∷ []) all .in-order) sorted)
-        (sort-sorted P before strict left (λ x m. ps x (left-inside x m))) (nodup-keys found (apart-nodup key alike alike-is alike-refl found (firsts-are (sameKeyed key alike alike-is alike-refl) (g ∷ []) all .apart)))
+        (sort-sorted P before strict left (λ x m. ps x (left-inside x m))) (nodup-map key found (apart-nodup key alike alike-is alike-refl found (firsts-are (sameKeyed key alike alike-is alike-refl) (g ∷ []) all .apart)))
         (sort-nodup before left nodup-left) (λ x m. sort-to before left x (to-left x m)) (λ x m. to-found x (sort-from before left x m)) (λ x y m n. total x y (from-all x m) (from-all y n))

@@ -1,24 +1,24 @@
 -- What is listed below a path has each hash and number of words once: the hash of one word more tells the hashes below it apart, since its base is odd. Assumes nothing.
-use mathlib.Core.Path.{_≡_, refl, sym, ap, ap₂, _∙_, subst}
+use mathlib.Core.Path.{_≡_, refl, sym, ap, ap₂, _∙_}
 use Prim.Native.Nat.{ℕ, suc, _+_, _*_, _%_, _^_, _<_}
 use native.Mathlib.Omega.{arith}
-use native.Mathlib.Nat.{mul-assoc, mul-comm, mul-add, mul-one, add-comm, add-mul-mod-self-right, mod-eq-of-lt, div-add-mod', add-mul, mul-right-comm}
+use native.Mathlib.Nat.{mul-assoc, mul-add, mul-one, add-comm, add-mul-mod-self-right, mod-eq-of-lt, div-add-mod', add-mul, mul-right-comm}
 use mathlib.Core.Bool.{Bool, true, false, not, _&&_, cond}
-use mathlib.Core.List.{List, [], _∷_, _++_, map, List·Memᴰ·head as here, List·Memᴰ·tail as there}
+use mathlib.Core.List.{[], _∷_, _++_, map, List·Memᴰ·head as here, List·Memᴰ·tail as there}
 use lib.Dec.{eqb}
 use lib.IntN.{ℤ}
-use lib.ListN.{take}
 use lib.Ieee.{Float}
 use borrow.Author.Tests.{eq-eqb, eqb-true}
-use Rattle.lists.specs.Tests.{case, either, never, and-both}
+use Rattle.lists.specs.Tests.{and-both}
 use Rattle.lists.specs.Lists.{_∈_, keepIf, sortBy, firsts}
 use Rattle.lists.specs.Members.{take-from, map-from}
-use Rattle.lists.specs.Firsts.{Apart, firsts-are}
+use Rattle.lists.specs.Firsts.{firsts-are}
 use Rattle.model.specs.Basics.{_≺_, _≼_, 0f, nonzero, unsigned}
 use Rattle.model.specs.Path.{Path, emptyPath, arcOn, branchOn, word}
 use Rattle.model.specs.Hash.{hash-base, hashWord}
 use Rattle.model.specs.Readings.{Below, onTop, byWay, sameKey, cheapest, below}
 use Rattle.copy_laws.specs.Below.{below-each}
+use Rattle.listing_laws.specs.Alike.{apart-one}
 
 -- ---- one word more
 
@@ -55,11 +55,15 @@ word-apart w h k a b e =
 
 -- ---- keys
 
-pub key-parts : (a b : Below) → sameKey a b ≡ true → (a .hash ≡ b .hash) × (a .len ≡ b .len)
+-- one key is one hash and one number of words
+key-parts : (a b : Below) → sameKey a b ≡ true → (a .hash ≡ b .hash) × (a .len ≡ b .len)
 key-parts a b e = let d = and-both (eqb (a .hash) (b .hash)) (eqb (a .len) (b .len)) e in (eqb-true (a .hash) (b .hash) (d .0), eqb-true (a .len) (b .len) (d .1))
 
 pub key-of : (a b : Below) → a .hash ≡ b .hash → a .len ≡ b .len → sameKey a b ≡ true
 key-of a b p q = ap₂ (λ (x y : Bool). x && y) (eq-eqb (a .hash) (b .hash) p) (eq-eqb (a .len) (b .len) q)
+
+key-back : (a b : Below) → sameKey a b ≡ true → sameKey b a ≡ true
+key-back a b e = let d = key-parts a b e in key-of b a (sym (d .0)) (sym (d .1))
 
 below-fits : (margin : Float) (cap : ℕ) (p : Path) (b : Below) → b ∈ below margin cap p → b .hash < 2 ^ 64
 unfolding onTop byWay hashWord
@@ -82,12 +86,7 @@ on-top-apart w a b i j = go (nonzero w)
 
 -- ---- lists
 
-apart-one : (xs : List Below) → Apart sameKey xs → (a b : Below) → a ∈ xs → b ∈ xs → sameKey a b ≡ true → a ≡ b
-apart-one (x ∷ xs) d a b (here p) (here q) e = p ∙ sym q
-apart-one (x ∷ xs) d a b (here p) (there j) e = let k = key-parts a b e in never (sym (d .0 b j) ∙ key-of b x (sym (k .0) ∙ ap (λ (z : Below). z .hash) p) (sym (k .1) ∙ ap (λ (z : Below). z .len) p))
-apart-one (x ∷ xs) d a b (there i) (here q) e = let k = key-parts a b e in never (sym (d .0 a i) ∙ key-of a x (k .0 ∙ ap (λ (z : Below). z .hash) q) (k .1 ∙ ap (λ (z : Below). z .len) q))
-apart-one (x ∷ xs) d a b (there i) (there j) e = apart-one xs (d .1) a b i j e
-
+-- no key comes twice below a path
 pub below-once : (margin : Float) (cap : ℕ) (p : Path) (a b : Below) → a ∈ below margin cap p → b ∈ below margin cap p → sameKey a b ≡ true → a ≡ b
 unfolding below cheapest
 below-once margin cap emptyPath a b (here p) (here q) e = p ∙ sym q
@@ -99,4 +98,4 @@ below-once margin cap (arcOn x p) a b i j e =
     q ∙ ap (onTop (word x)) (below-once margin cap p c d k l (on-top-apart (word x) c d (below-fits margin cap p c k) (below-fits margin cap p d l) (ap₂ sameKey (sym q) (sym r) ∙ e))) ∙ sym r
 below-once margin cap (branchOn m k p) a b i j e =
     let xs = sortBy (λ (a b : Below). a .cost ≺ b .cost) (keepIf (λ (b : Below). not (margin ≺ b .cost)) (map (byWay 0f 0f []) (below margin cap p) ++ cond (m .cost ≼ margin) (map (byWay (m .cost) (m .graph) (m .number ∷ [])) (below margin cap k)) [])) in
-    apart-one (firsts sameKey [] xs) (firsts-are sameKey [] xs .apart) a b (take-from cap (firsts sameKey [] xs) a i) (take-from cap (firsts sameKey [] xs) b j) e
+    apart-one sameKey (firsts sameKey [] xs) (firsts-are sameKey [] xs .apart) a b (take-from cap (firsts sameKey [] xs) a i) (take-from cap (firsts sameKey [] xs) b j) e (key-back a b e)

@@ -44,6 +44,7 @@ module _ {g : Graph} {fs : List Heard} {st : State} {f : Bool} {margin bound : F
   in-all : (x : Group) → x ∈ (os ++ keptGroups ks) → x ∈ (grouped g st f ++ kepts)
   in-all x m = case (List·Memᴰ·append-cases os m) (λ n. Memᴰ·append-left kepts (in-own x n)) (λ n. Memᴰ·append-right (grouped g st f) (in-kept x n))
 
+  -- whatever the order of the kept readings
   pub merged-parts : merged (grouped g st f) (keptGroups ks) ≡ o ∷ sortBy readOrder (leftBy (keptGroups ks) os ++ leftBy os (otherThan o (keptGroups ks)))
   merged-parts =
       ap (λ (l : List Group). merged l (keptGroups ks)) e

@@ -1,16 +1,15 @@
 -- The kept readings in their order: the definition's map, sorted as the list is. Assumes nothing.
-use mathlib.Core.Path.{_≡_, refl, sym, ap, _∙_, subst}
-use Prim.Native.Nat.{ℕ, suc, _≤_, _<_}
+use mathlib.Core.Path.{_≡_, sym, _∙_, subst}
+use Prim.Native.Nat.{ℕ, suc}
 use native.Mathlib.Omega.{arith}
 use mathlib.Core.Bool.{Bool, false}
-use mathlib.Core.List.{List, [], _∷_, map, map-map, List·Memᴰ·head as here, List·Memᴰ·tail as there}
+use mathlib.Core.List.{List, map, map-map}
 use lib.IntN.{ℤ}
 use lib.ListN.{length, take}
 use lib.Ieee.{Float}
 use Rattle.lists.specs.Lists.{_∈_, range}
-use Rattle.lists.specs.Members.{map-from, map-to}
+use Rattle.lists.specs.Members.{map-to}
 use Rattle.lists.specs.Order.{Perm, perm-sym, perm-then, perm-member, Sorted}
-use Rattle.model.specs.Reads.{Group}
 use Rattle.model.specs.Readings.{Below, Kept, keptGroup, isOwn, readOrder}
 use Rattle.copy_laws.specs.Folded.{perm-map}
 use Rattle.below.specs.Stored.{Decoded}
@@ -20,15 +19,14 @@ use Rattle.kept_readings.specs.Meaning.{asKept}
 use Rattle.kept_order.specs.Before.{keptBefore}
 use Rattle.kept_order.specs.Asks.{OrderIs}
 use Rattle.listing_laws.specs.Situation.{Situation, Held}
+use Rattle.listing_laws.specs.Alike.{sorted-map}
 use Rattle.listing_laws.specs.Owns.{rankIn}
 use Rattle.listing_laws.specs.Words.{before-is}
 use Rattle.listing_laws.specs.Members.{KeptHeld}
 
--- sorted by tests that agree on the members
-pub sorted-as : {A B : Type 0} (before : A → A → Bool) (after : B → B → Bool) (f : A → B) (xs : List A) → ((x y : A) → x ∈ xs → y ∈ xs → before x y ≡ after (f x) (f y)) → Sorted before xs → Sorted after (map f xs)
-sorted-as before after f [] e s = tt
-sorted-as {B = B} before after f (x ∷ xs) e s =
-    (λ y m. let (z, i, q) = map-from f xs y m in ap (λ (b : B). after b (f x)) q ∙ sym (e z x (there i) (here refl)) ∙ s .0 z i, sorted-as before after f xs (λ u v i j. e u v (there i) (there j)) (s .1))
+-- its first are the numbers below r
+pub in-order : {before : ℕ → ℕ → Bool} {r : ℕ} {order : List ℕ} → OrderIs before r order → (i : ℕ) → i ∈ take r order → i ∈ range 0 r
+in-order O i m = perm-member (perm-sym (O .perm)) i m
 
 module _ {tk : List ℕ} {sm fs : List Float} {rs : List ℕ} {ls : List ℤ} {gs : List Float} {n b used : ℕ} {keeps : Bool} {margin : Float} (S : Situation tk sm fs rs ls gs n b used keeps margin) (counts : Bool) {hs ns : List ℕ} {xs : List Float} {bs : List Below} (D : Decoded (S .h) used hs ns xs bs)
     (khs kns : List ℕ) (kxs : List Float) (r : ℕ) (order : List ℕ) (O : OrderIs (keptBefore tk rs ls b ns khs kns kxs) r order) where
@@ -43,12 +41,9 @@ module _ {tk : List ℕ} {sm fs : List Float} {rs : List ℕ} {ls : List ℤ} {g
     pub many : next ≡ suc (length bs)
     pub foreign : (k : KeptReading) → k ∈ keptList khs kns kxs r → isOwn (keptGroup (asKept (rankIn S counts) bs k)) ≡ false
 
-  pub in-order : (i : ℕ) → i ∈ take r order → i ∈ range 0 r
-  in-order i m = perm-member (perm-sym (O .perm)) i m
-
   module _ {ss : List ℕ} {next : ℕ} (M : Met ss next) where
     in-list : (i : ℕ) → i ∈ take r order → keptIn khs kns kxs i ∈ keptList khs kns kxs r
-    in-list i m = map-to (keptIn khs kns kxs) (range 0 r) i (in-order i m)
+    in-list i m = map-to (keptIn khs kns kxs) (range 0 r) i (in-order O i m)
 
     agree : (i j : ℕ) → i ∈ take r order → j ∈ take r order → keptBefore tk rs ls b ns khs kns kxs i j ≡ readOrder (keptGroup (keptAt i)) (keptGroup (keptAt j))
     unfolding keptBefore
@@ -58,8 +53,9 @@ module _ {tk : List ℕ} {sm fs : List Float} {rs : List ℕ} {ls : List ℤ} {g
         before-is S counts D (keptIn khs kns kxs i) (keptIn khs kns kxs j) (M .active _ (x .state-in)) (M .active _ (y .state-in)) (let z = x .entry-low in let w = M .many in omega arith) (let z = y .entry-low in let w = M .many in omega arith)
         (M .foreign (keptIn khs kns kxs i) (in-list i p)) (M .foreign (keptIn khs kns kxs j) (in-list j q)) (x .seq) (y .seq)
 
+    -- their groups are sorted as the list is
     pub kept-sorted : Sorted readOrder (map (λ (i : ℕ). keptGroup (keptAt i)) (take r order))
-    kept-sorted = sorted-as (keptBefore tk rs ls b ns khs kns kxs) readOrder (λ (i : ℕ). keptGroup (keptAt i)) (take r order) agree (O .sorted)
+    kept-sorted = sorted-map (keptBefore tk rs ls b ns khs kns kxs) readOrder (λ (i : ℕ). keptGroup (keptAt i)) (take r order) (λ i j p q e. sym (agree i j p q) ∙ e) (O .sorted)
 
   -- in this order they are the definition's map too
   pub kept-perm : (K : List Kept) → Perm (map (asKept (rankIn S counts) bs) (keptList khs kns kxs r)) K → Perm K (map keptAt (take r order))

@@ -2,13 +2,12 @@
 use mathlib.Core.Path.{_≡_, refl, sym, ap, _∙_}
 use Prim.Native.Nat.{ℕ}
 use mathlib.Core.Bool.{Bool, true, false, not, _&&_, _||_}
-use mathlib.Core.List.{List, [], _∷_, map, List·Memᴰ·head as here, List·Memᴰ·tail as there, Memᴰ·append-right}
+use mathlib.Core.List.{List, [], map, Memᴰ·append-right}
 use lib.Dec.{ltb, eqb}
 use lib.Ieee.{Float, eq}
 use borrow.Author.Tests.{eqb-true}
 use Rattle.lists.specs.Tests.{case, either, never, holds, fails, is-true, is-false}
 use Rattle.lists.specs.Lists.{_∈_}
-use Rattle.lists.specs.Members.{map-from}
 use Rattle.lists.specs.Order.{Sorted}
 use Rattle.lists.specs.Firsts.{firsts-are}
 use Rattle.real32.specs.Order.{lt-asym, lt-not-le, not-lt→le, le-antisym, eq→le}
@@ -24,6 +23,7 @@ use Rattle.copy_laws.specs.Active.{Active}
 use Rattle.copy_laws.specs.Minima.{not-itself, sublist-sorted}
 use Rattle.copy_laws.specs.Sooner.{has-rank, one-entry, ranked-sorted}
 use Rattle.copy_laws.specs.Distinct.{sameOf}
+use Rattle.listing_laws.specs.Alike.{sorted-map}
 use Rattle.listing_laws.specs.Ordering.{HasRank, order-strict}
 use Rattle.listing_laws.specs.Known.{keptIn, keptGroups, Known, own-is-own, kept-not-own, own-has-rank, listed-has-rank}
 use Rattle.listing_laws.specs.Total.{wordsOf}
@@ -31,7 +31,8 @@ use Rattle.listing_laws.specs.Total.{wordsOf}
 -- ---- a survivor x and a kept reading y
 
 module _ (x y : Group) (own : isOwn x ≡ true) (kept : isOwn y ≡ false) where
-  pub kept-first : readOrder y x ≡ (y .rank ≺ x .rank)
+  -- the kept reading comes first where it ranks lower
+  kept-first : readOrder y x ≡ (y .rank ≺ x .rank)
   unfolding readOrder
   kept-first = go (y .rank ≺ x .rank) (eq (y .rank) (x .rank)) (isOwn y) (isOwn x) kept own _
     where
@@ -42,7 +43,8 @@ module _ (x y : Group) (own : isOwn x ≡ true) (kept : isOwn y ≡ false) where
       go false true false true p q s = refl
       go false false false true p q s = refl
 
-  pub own-first : HasRank x → HasRank y → readOrder x y ≡ not (y .rank ≺ x .rank)
+  -- else the survivor
+  own-first : HasRank x → HasRank y → readOrder x y ≡ not (y .rank ≺ x .rank)
   unfolding readOrder
   own-first rx ry = go (x .rank ≺ y .rank) (eq (x .rank) (y .rank)) (isOwn x) (isOwn y) own kept _ ∙ ranks
     where
@@ -65,6 +67,7 @@ module _ (x y : Group) (own : isOwn x ≡ true) (kept : isOwn y ≡ false) where
           (λ a. let b : eq (x .rank) (y .rank) ≡ true = is-true (le-antisym (x .rank) (y .rank) (not-lt→le (y .rank) (x .rank) ry rx (fails t)) (not-lt→le (x .rank) (y .rank) rx ry (fails a))) in rw (a, b, t)))
 
 module _ {g : Graph} {fs : List Heard} {st : State} {f : Bool} {margin bound : Float} {cap : ℕ} (known : Known g fs st f margin bound cap) where
+  -- so it is between any two of the lists
   pub beaten-by-rank : (x y : Group) → x ∈ grouped g st f → y ∈ keptGroups (keptIn g st f margin bound cap) → (readOrder y x ≡ (y .rank ≺ x .rank)) × (readOrder x y ≡ not (y .rank ≺ x .rank))
   beaten-by-rank x y m n =
       let own = own-is-own g st f x m in
@@ -94,13 +97,9 @@ module _ (g : Graph) (good : GoodGraph g) (floats : Floats32 g) (fs : List Heard
       differ : eqb (r .token .seq) (q .token .seq) ≡ false → readOrder (ownGroup r) (ownGroup q) ≡ false
       differ t = go (r .rank ≺ q .rank) (eq (r .rank) (q .rank)) (ltb (q .token .seq) (r .token .seq)) (eqb (r .token .seq) (q .token .seq)) (wordsLt (ownGroup r .words) (ownGroup q .words)) e t
 
-  map-sorted : (rs : List Ranked) → ((r : Ranked) → r ∈ rs → r ∈ ranked g st f) → Sorted sooner rs → Sorted readOrder (map ownGroup rs)
-  map-sorted [] h s = tt
-  map-sorted (r ∷ rs) h s =
-      (λ y m. let (q, n, e) = map-from ownGroup rs y m in ap (λ (z : Group). readOrder z (ownGroup r)) e ∙ own-later q r (h q (there n)) (h r (here refl)) (s .0 q n), map-sorted rs (λ q m. h q (there m)) (s .1))
-
+  -- sorted by rank and seq they are sorted as readings
   pub sorted-own : Sorted readOrder (grouped g st f)
   unfolding grouped
   sorted-own =
       let rs = ranked g st f in
-      sublist-sorted readOrder (grouped g st f) (map ownGroup rs) (firsts-are (sameOf wordsOf) [] (map ownGroup rs) .in-order) (map-sorted rs (λ r m. m) (ranked-sorted g good floats fs st active f))
+      sublist-sorted readOrder (grouped g st f) (map ownGroup rs) (firsts-are (sameOf wordsOf) [] (map ownGroup rs) .in-order) (sorted-map sooner readOrder ownGroup rs own-later (ranked-sorted g good floats fs st active f))

@@ -1,27 +1,21 @@
 -- The list that is made of both, over what its items stand for: the best own group, and the rest of both that no one of the other beats, sorted. Assumes nothing.
 use mathlib.Core.Path.{_≡_, refl, sym, ap, ap₂, _∙_, subst}
 use Prim.Native.Nat.{ℕ}
-use mathlib.Core.Bool.{Bool, true, false, not, _&&_, cond}
-use mathlib.Core.List.{List, [], _∷_, _++_, map, List·Memᴰ·head as here, List·Memᴰ·tail as there}
+use mathlib.Core.Bool.{Bool, not, _&&_}
+use mathlib.Core.List.{List, _∷_, _++_, map, List·Memᴰ·head as here, List·Memᴰ·tail as there}
 use Rattle.lists.specs.Lists.{_∈_, any, keepIf, sortBy}
-use Rattle.lists.specs.Members.{keep-from, map-from, map-to}
+use Rattle.lists.specs.Members.{keep-from, map-from}
 use Rattle.lists.specs.Order.{Sorted, Strict}
-use Rattle.below.specs.Maps.{keep-map, map-same}
-use Rattle.lists.specs.Merge.{mergeOf, Merges, merge-is, map-merge}
+use Rattle.below.specs.Maps.{map-same}
+use Rattle.kept_readings.specs.Model.{keep-as}
+use Rattle.lists.specs.Merge.{Merges, merge-is, map-merge}
 use Rattle.merged.specs.Items.{listedKept, mergedItems}
 use Rattle.merged.specs.Left.{keptStands, ownStands, ownLeft, kept-stands}
-use Rattle.listing_laws.specs.Left.{keep-as, left-own, left-other}
-
--- what is left out of a sorted list does not matter
-sorted-keep : {A C : Type 0} (before : C → C → Bool) (p : A → C) (t : A → Bool) (xs : List A) → Sorted before (map p xs) → Sorted before (map p (keepIf t xs))
-sorted-keep before p t [] s = tt
-sorted-keep {A} {C} before p t (x ∷ xs) s = go (t x) (sorted-keep before p t xs (s .1))
-  where
-    go : (b : Bool) → Sorted before (map p (keepIf t xs)) → Sorted before (map p (cond b (x ∷ keepIf t xs) (keepIf t xs)))
-    go true r = (λ y m. let (z, i, e) = map-from p (keepIf t xs) y m in s .0 y (subst (λ (c : C). c ∈ map p xs) (sym e) (map-to p xs z (keep-from t xs z i))), r)
-    go false r = r
+use Rattle.listing_laws.specs.Alike.{sorted-keep}
+use Rattle.listing_laws.specs.Left.{left-own, left-other}
 
 module _ {C : Type 0} (P : C → Type 0) (before : C → C → Bool) (strict : Strict P before) (alike : C → C → Bool) (p q : ℕ → C) (same first : ℕ → ℕ → Bool) (item : ℕ → C) (o : ℕ) (os ord : List ℕ) where
+  -- what the code lists and tests, and what it stands for
   pub record Reads : Type 0 where
     -- an item stands for an own group or for a kept reading
     pub own-item : (s : ℕ) → s ∈ (o ∷ os) → item s ≡ p s
@@ -65,8 +59,9 @@ module _ {C : Type 0} (P : C → Type 0) (before : C → C → Bool) (strict : S
 
     -- of the kept readings those with other words than the best group
     other-words : keepIf (λ (c : C). not (alike c (p o))) (map q ord) ≡ map q (keepIf (λ (i : ℕ). not (same i o)) ord)
-    other-words = keep-map q (λ (c : C). not (alike c (p o))) ord ∙ ap (map q) (keep-as (λ (i : ℕ). not (alike (q i) (p o))) (λ (i : ℕ). not (same i o)) ord (λ i m. ap not (R .same-back o i (here refl) m)))
+    other-words = sym (keep-as q (λ (i : ℕ). not (same i o)) (λ (c : C). not (alike c (p o))) ord (λ i m. ap not (sym (R .same-back o i (here refl) m))))
 
+    -- what the code merges stands for this list
     pub together : map item (mergedItems first (ownLeft same first ord (o ∷ os)) (keepIf (keptStands same first (o ∷ os)) ord))
         ≡ p o ∷ sortBy before (keepIf (λ (c : C). not (beats (map q ord) c)) (map p os) ++ keepIf (λ (c : C). not (beats (map p os) c)) (keepIf (λ (c : C). not (alike c (p o))) (map q ord)))
     together =

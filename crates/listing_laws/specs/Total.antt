@@ -9,19 +9,18 @@ use Rattle.lists.specs.Tests.{case, never}
 use Rattle.lists.specs.Lists.{_∈_, firsts}
 use Rattle.lists.specs.Order.{Perm, perm-cons, Strict, sort-of-perm}
 use Rattle.model.specs.Graph.{Graph}
-use Rattle.model.specs.Path.{sameWords}
 use Rattle.model.specs.Passes.{State}
 use Rattle.model.specs.Reads.{Group, grouped}
 use Rattle.model.specs.Readings.{Kept, keptGroup, readOrder, merged}
-use Rattle.copy_laws.specs.Labels.{words-alike, words-same}
 use Rattle.copy_laws.specs.Walks.{Heard}
 use Rattle.copy_laws.specs.Folded.{perm-map}
 use Rattle.copy_laws.specs.Distinct.{sameOf, grouped-distinct}
-use Rattle.listing_laws.specs.Merged.{one-of}
+use Rattle.listing_laws.specs.Alike.{one-of}
 use Rattle.listing_laws.specs.Ordering.{HasRank, order-strict, order-level}
 use Rattle.listing_laws.specs.Known.{keptIn, keptGroups, Known, own-is-own, kept-not-own, listed-has-rank}
 use Rattle.listing_laws.specs.Keys.{kept-distinct}
 
+-- the words of a reading
 abbrev pub wordsOf : Group → List ℤ
 wordsOf x = x .words
 
@@ -47,16 +46,17 @@ module _ {g : Graph} {fs : List Heard} {st : State} {f : Bool} {margin bound : F
   abbrev kept : List Kept
   kept = keptIn g st f margin bound cap
 
+  -- two that are level are one
   pub listed-total : (x y : Group) → x ∈ (grouped g st f ++ keptGroups (keptIn g st f margin bound cap)) → y ∈ (grouped g st f ++ keptGroups (keptIn g st f margin bound cap)) → readOrder x y ≡ false → readOrder y x ≡ false → x ≡ y
   listed-total x y m n e d =
       let l = order-level x y (listed-has-rank known x m) (listed-has-rank known y n) e d in
       case (List·Memᴰ·append-cases own m)
       (λ i.
-      case (List·Memᴰ·append-cases own n) (λ j. one-of wordsOf sameWords words-same words-alike readOrder own (grouped-distinct g st f) x y i j (l .words))
+      case (List·Memᴰ·append-cases own n) (λ j. one-of wordsOf own (grouped-distinct g st f) x y i j (l .words))
       (λ j. never (sym (kept-not-own known y j) ∙ sym (l .own) ∙ own-is-own g st f x i)))
       (λ i.
       case (List·Memᴰ·append-cases own n) (λ j. never (sym (kept-not-own known x i) ∙ l .own ∙ own-is-own g st f y j))
-      (λ j. one-of wordsOf sameWords words-same words-alike readOrder (keptGroups kept) (kept-distinct (known .standing) f margin bound cap) x y i j (l .words)))
+      (λ j. one-of wordsOf (keptGroups kept) (kept-distinct (known .standing) f margin bound cap) x y i j (l .words)))
 
   -- the kept map in any order gives the same list
   pub merged-any-order : (ks : List Kept) → Perm (keptIn g st f margin bound cap) ks → merged (grouped g st f) (keptGroups ks) ≡ merged (grouped g st f) (keptGroups (keptIn g st f margin bound cap))

@@ -1,10 +1,9 @@
 -- The items of the list stand for the definition's readings. Assumes nothing.
 use mathlib.Core.Path.{_≡_, refl, sym, ap, ap₂, _∙_, subst}
-use Prim.Native.Nat.{ℕ, zero, suc, _+_, _-_, _≤_, _<_}
+use Prim.Native.Nat.{ℕ, _+_, _-_, _≤_}
 use native.Mathlib.Omega.{arith}
-use mathlib.Core.Bool.{Bool, true, false, not, _&&_, cond}
-use mathlib.Core.Option.{some}
-use mathlib.Core.List.{List, [], _∷_, _++_, map, map-map, reverse, List·Memᴰ·head as here, List·Memᴰ·tail as there}
+use mathlib.Core.Bool.{Bool, false, not, cond}
+use mathlib.Core.List.{List, [], _∷_, _++_, map, map-map, reverse, List·Memᴰ·tail as there}
 use lib.Dec.{ltb}
 use lib.IntN.{ℤ}
 use lib.ListN.{length, take}
@@ -14,20 +13,16 @@ use Rattle.lists.specs.Tests.{same, holds, is-true}
 use Rattle.lists.specs.Lists.{_∈_, keepIf, range, sortBy}
 use Rattle.lists.specs.Members.{map-to}
 use Rattle.lists.specs.Order.{Perm, perm-sym, perm-member, Sorted}
-use Rattle.model.specs.Basics.{_≺_, 0f}
-use Rattle.model.specs.Ints.{sameWords-true, sameWords-refl}
-use Rattle.model.specs.Path.{wordsBack, sameWords}
-use Rattle.model.specs.Reads.{Ranked, Group, trace, ranked, grouped, useFinals}
-use Rattle.model.specs.Readings.{Below, Kept, keptGroup, isOwn, readOrder, merged}
-use Rattle.copy_laws.specs.Routes.{trace-words, own-words}
+use Rattle.model.specs.Basics.{_≺_}
+use Rattle.model.specs.Path.{sameWords}
+use Rattle.model.specs.Reads.{Group, grouped, useFinals}
+use Rattle.model.specs.Readings.{Below, Kept, keptGroup, readOrder, merged}
+use Rattle.copy_laws.specs.Labels.{words-alike, words-same}
 use Rattle.ranking.specs.Ranked.{RankedIs}
-use Rattle.groups.specs.Firsts.{linkAt, FirstsIs}
+use Rattle.groups.specs.Firsts.{FirstsIs}
 use Rattle.below.specs.Stored.{Decoded}
-use Rattle.kept_readings.specs.declared.KeptReading.{KeptReading}
 use Rattle.kept_readings.specs.Kept.{keptIn as keptPlace, keptList}
 use Rattle.kept_readings.specs.Meaning.{asKept}
-use Rattle.routes.specs.Back.{backAlong}
-use Rattle.routes.specs.Told.{words-told}
 use Rattle.kept_order.specs.Before.{keptBefore}
 use Rattle.kept_order.specs.Asks.{OrderIs}
 use Rattle.merged.specs.Twins.{ownWords}
@@ -36,25 +31,32 @@ use Rattle.merged.specs.Items.{ownRank, keptFirst, listedKept, mergedItems}
 use Rattle.merged.specs.Left.{keptStands, ownLeft}
 use Rattle.listing_laws.specs.Situation.{Situation, Held}
 use Rattle.listing_laws.specs.Ordering.{HasRank, order-strict}
-use Rattle.listing_laws.specs.Known.{keptIn, keptGroups, Known, own-is-own, kept-not-own, own-has-rank, kept-has-rank}
+use Rattle.listing_laws.specs.Known.{keptIn, keptGroups, Known, own-has-rank, kept-has-rank}
 use Rattle.listing_laws.specs.Total.{merged-any-order}
 use Rattle.listing_laws.specs.Parts.{leftBy, otherThan, merged-parts}
 use Rattle.listing_laws.specs.Survivors.{beaten-by-rank, sorted-own}
-use Rattle.listing_laws.specs.Owns.{reverse-same, rankIn, groupIn, link-in, own-ranked, own-held, grouped-are}
+use Rattle.listing_laws.specs.Owns.{reverse-same, rankIn, groupIn, own-ranked, own-held, grouped-are}
 use Rattle.listing_laws.specs.Heads.{rank-is, head-in}
-use Rattle.listing_laws.specs.Words.{kept-words}
+use Rattle.listing_laws.specs.Words.{own-words-are, kept-words}
 use Rattle.listing_laws.specs.Together.{Reads, together}
 use Rattle.listing_laws.specs.Sorted.{Met, keptAt, in-order, kept-sorted, kept-perm}
 
 same-turned : (xs ys : List ℤ) → sameWords xs ys ≡ sameWords ys xs
-same-turned xs ys = same (sameWords xs ys) (sameWords ys xs) (λ t. holds (back xs ys (is-true t))) (λ t. holds (back ys xs (is-true t)))
-  where
-    back : (us vs : List ℤ) → sameWords us vs ≡ true → sameWords vs us ≡ true
-    back us vs e = subst (λ (l : List ℤ). sameWords vs l ≡ true) (sym (sameWords-true us vs e)) (sameWords-refl vs)
+same-turned xs ys =
+    same (sameWords xs ys) (sameWords ys xs) (λ t. holds (words-alike ys xs (sym (words-same xs ys (is-true t))))) (λ t. holds (words-alike xs ys (sym (words-same ys xs (is-true t)))))
 
 -- what an item of the list stands for: a state's own group, or from 2 ^ 31 on a kept reading
 abbrev pub itemGroup : {tk : List ℕ} {sm fs : List Float} {rs : List ℕ} {ls : List ℤ} {gs : List Float} {n b used : ℕ} {keeps : Bool} {margin : Float} → Situation tk sm fs rs ls gs n b used keeps margin → (counts : Bool) → List Below → (khs kns : List ℕ) → List Float → ℕ → Group
 itemGroup S counts bs khs kns kxs i = cond (ltb i 2_147_483_648) (groupIn S counts i) (keptGroup (asKept (rankIn S counts) bs (keptPlace khs kns kxs (i - 2_147_483_648))))
+
+-- a state's
+pub item-own : {tk : List ℕ} {sm fs : List Float} {rs : List ℕ} {ls : List ℤ} {gs : List Float} {n b used : ℕ} {keeps : Bool} {margin : Float} (S : Situation tk sm fs rs ls gs n b used keeps margin) (counts : Bool) (bs : List Below) (khs kns : List ℕ) (kxs : List Float)
+    → n ≤ 65_535 → (s : ℕ) → Held tk b n s → itemGroup S counts bs khs kns kxs s ≡ groupIn S counts s
+item-own S counts bs khs kns kxs few s d = let z = d .0 in ap (λ (t : Bool). cond t (groupIn S counts s) (keptGroup (asKept (rankIn S counts) bs (keptPlace khs kns kxs (s - 2_147_483_648))))) (lt-ltb s 2_147_483_648 (omega arith))
+
+-- kept reading i reads as the own group of state s does
+abbrev pub sameTest : List ℕ → List ℤ → List ℕ → (side : ℕ) → (nexts khs kns : List ℕ) → List Float → (i s : ℕ) → Bool
+sameTest rs ls tk b ns khs kns kxs i s = sameWords (keptWords rs ls tk b ns (keptPlace khs kns kxs i)) (ownWords rs ls tk b s)
 
 module _ {tk : List ℕ} {sm fs : List Float} {rs : List ℕ} {ls : List ℤ} {gs : List Float} {n b used : ℕ} {keeps : Bool} {margin : Float} (S : Situation tk sm fs rs ls gs n b used keeps margin) (few-states : n ≤ 65_535) (f counts : Bool)
     (c : counts ≡ useFinals (S .g) (S .st) f) {order : List ℕ} {all : ℕ} (R : RankedIs tk sm fs b n counts order all) {own own' : List ℕ} {m : ℕ} (copied : take all own ≡ take all order) (F : FirstsIs tk rs ls b used false own own' all m) (room : m ≤ length own')
@@ -78,25 +80,20 @@ module _ {tk : List ℕ} {sm fs : List Float} {rs : List ℕ} {ls : List ℤ} {g
 
   -- ---- words
 
-  own-words-are : (s : ℕ) → Held tk b n s → groupIn S counts s .words ≡ reverse (ownWords rs ls tk b s)
-  own-words-are s d =
-      let p = rankIn S counts s .token .path in
-      own-words p ∙ sym (trace-words 0 [] p 0f) ∙ words-told (S .stands) 0 (linkAt tk b s) p 0f (link-in S counts s d) [] (λ x k. elim k [ ])
-
   kept-words-are : (i : ℕ) → i ∈ take r ord → keptIs i .words ≡ reverse (keptWords rs ls tk b ns (keptPlace khs kns kxs i))
   kept-words-are i k =
-      let x = M .held (keptPlace khs kns kxs i) (map-to (keptPlace khs kns kxs) (range 0 r) i (in-order S counts D khs kns kxs r ord O i k)) in
+      let x = M .held (keptPlace khs kns kxs i) (map-to (keptPlace khs kns kxs) (range 0 r) i (in-order O i k)) in
       kept-words S counts D (keptPlace khs kns kxs i) (M .active _ (x .state-in)) (let z = x .entry-low in let w = M .many in omega arith)
 
   -- the tests of the code, by states and by numbers of kept readings
-  abbrev pub sameTest : (i s : ℕ) → Bool
-  sameTest i s = sameWords (keptWords rs ls tk b ns (keptPlace khs kns kxs i)) (ownWords rs ls tk b s)
+  abbrev sameIn : (i s : ℕ) → Bool
+  sameIn = sameTest rs ls tk b ns khs kns kxs
 
-  abbrev pub firstTest : (i s : ℕ) → Bool
-  firstTest i s = keptFirst tk sm fs b counts khs kns kxs i s
+  abbrev firstIn : (i s : ℕ) → Bool
+  firstIn = keptFirst tk sm fs b counts khs kns kxs
 
-  same-back : (s i : ℕ) → Held tk b n s → i ∈ take r ord → sameWords (keptIs i .words) (groupIn S counts s .words) ≡ sameTest i s
-  same-back s i d k = ap₂ sameWords (kept-words-are i k) (own-words-are s d) ∙ reverse-same (keptWords rs ls tk b ns (keptPlace khs kns kxs i)) (ownWords rs ls tk b s)
+  same-back : (s i : ℕ) → Held tk b n s → i ∈ take r ord → sameWords (keptIs i .words) (groupIn S counts s .words) ≡ sameIn i s
+  same-back s i d k = ap₂ sameWords (kept-words-are i k) (own-words-are S counts s d) ∙ reverse-same (keptWords rs ls tk b ns (keptPlace khs kns kxs i)) (ownWords rs ls tk b s)
 
   -- ---- the list
 
@@ -107,13 +104,10 @@ module _ {tk : List ℕ} {sm fs : List Float} {rs : List ℕ} {ls : List ℤ} {g
   own-in s k = subst (λ (l : List Group). groupIn S counts s ∈ l) (sym (grouped-are S counts f c R copied F)) (map-to (groupIn S counts) (take m own') s k)
 
   held : (s : ℕ) → s ∈ take m own' → Held tk b n s
-  held = own-held S counts f c R copied F
+  held = own-held S counts R copied F
 
   own-rank : (s : ℕ) → s ∈ take m own' → ownRank tk sm fs b counts s ≡ groupIn S counts s .rank
-  own-rank s k = rank-is S counts s (head-in S counts f c R s (own-ranked S counts f c R copied F s k))
-
-  item-own : (s : ℕ) → s ∈ take m own' → item s ≡ groupIn S counts s
-  item-own s k = let z = held s k .0 in ap (λ (b : Bool). cond b (groupIn S counts s) (keptGroup (asKept (rankIn S counts) bs (keptPlace khs kns kxs (s - 2_147_483_648))))) (lt-ltb s 2_147_483_648 (omega arith))
+  own-rank s k = rank-is S counts s (head-in S counts f c R s (own-ranked S counts R copied F s k))
 
   item-kept : (i : ℕ) → item (listedKept i) ≡ keptIs i
   item-kept i =
@@ -127,10 +121,10 @@ module _ {tk : List ℕ} {sm fs : List Float} {rs : List ℕ} {ls : List ℤ} {g
     groups-are : grouped (S .g) (S .st) f ≡ groupIn S counts o ∷ map (groupIn S counts) os
     groups-are = grouped-are S counts f c R copied F ∙ ap (map (groupIn S counts)) is
 
-    reads : Reads HasRank readOrder order-strict (λ (x y : Group). sameWords (x .words) (y .words)) (groupIn S counts) keptIs sameTest firstTest item o os (take r ord)
+    reads : Reads HasRank readOrder order-strict (λ (x y : Group). sameWords (x .words) (y .words)) (groupIn S counts) keptIs sameIn firstIn item o os (take r ord)
     reads =
         record {
-          own-item = λ s k. item-own s (among s k);
+          own-item = λ s k. item-own S counts bs khs kns kxs few-states s (held s (among s k));
           kept-item = λ i k. item-kept i;
           same-is = λ s i k j. same-turned (groupIn S counts s .words) (keptIs i .words) ∙ same-back s i (held s (among s k)) j;
           same-back = λ s i k j. same-back s i (held s (among s k)) j;
@@ -142,19 +136,19 @@ module _ {tk : List ℕ} {sm fs : List Float} {rs : List ℕ} {ls : List ℤ} {g
           kept-sorted = kept-sorted S counts D khs kns kxs r ord O M;
         }
 
-    merged-one : map item (mergedItems firstTest (ownLeft sameTest firstTest (take r ord) (o ∷ os)) (keepIf (keptStands sameTest firstTest (o ∷ os)) (take r ord))) ≡ merged (grouped (S .g) (S .st) f) (keptGroups ks)
+    merged-one : map item (mergedItems firstIn (ownLeft sameIn firstIn (take r ord) (o ∷ os)) (keepIf (keptStands sameIn firstIn (o ∷ os)) (take r ord))) ≡ merged (grouped (S .g) (S .st) f) (keptGroups ks)
     merged-one =
-        together HasRank readOrder order-strict (λ (x y : Group). sameWords (x .words) (y .words)) (groupIn S counts) keptIs sameTest firstTest item o os (take r ord) reads
+        together HasRank readOrder order-strict (λ (x y : Group). sameWords (x .words) (y .words)) (groupIn S counts) keptIs sameIn firstIn item o os (take r ord) reads
         ∙ sym
         (merged-parts known ks (kept-perm S counts D khs kns kxs r ord O (keptIn (S .g) (S .st) f margin bound cap) perm) (groupIn S counts o) (map (groupIn S counts) os) groups-are
         ∙ ap (λ (l : List Group). groupIn S counts o ∷ sortBy readOrder (leftBy l (map (groupIn S counts) os) ++ leftBy (map (groupIn S counts) os) (otherThan (groupIn S counts o) l))) (map-map keptGroup keptOne (take r ord)))
 
   -- all of it is the definition's list
-  pub list-is : map item (mergedItems firstTest (ownLeft sameTest firstTest (take r ord) (take m own')) (keepIf (keptStands sameTest firstTest (take m own')) (take r ord))) ≡ merged (grouped (S .g) (S .st) f) (keptGroups (keptIn (S .g) (S .st) f margin bound cap))
+  pub list-is : map item (mergedItems firstIn (ownLeft sameIn firstIn (take r ord) (take m own')) (keepIf (keptStands sameIn firstIn (take m own')) (take r ord))) ≡ merged (grouped (S .g) (S .st) f) (keptGroups (keptIn (S .g) (S .st) f margin bound cap))
   list-is = go (take m own') refl ∙ merged-any-order known ks (kept-perm S counts D khs kns kxs r ord O (keptIn (S .g) (S .st) f margin bound cap) perm)
     where
-      go : (l : List ℕ) → take m own' ≡ l → map item (mergedItems firstTest (ownLeft sameTest firstTest (take r ord) (take m own')) (keepIf (keptStands sameTest firstTest (take m own')) (take r ord))) ≡ merged (grouped (S .g) (S .st) f) (keptGroups ks)
+      go : (l : List ℕ) → take m own' ≡ l → map item (mergedItems firstIn (ownLeft sameIn firstIn (take r ord) (take m own')) (keepIf (keptStands sameIn firstIn (take m own')) (take r ord))) ≡ merged (grouped (S .g) (S .st) f) (keptGroups ks)
       go [] e =
-          ap (λ (l : List ℕ). map item (mergedItems firstTest (ownLeft sameTest firstTest (take r ord) l) (keepIf (keptStands sameTest firstTest l) (take r ord)))) e
+          ap (λ (l : List ℕ). map item (mergedItems firstIn (ownLeft sameIn firstIn (take r ord) l) (keepIf (keptStands sameIn firstIn l) (take r ord)))) e
           ∙ sym (ap (λ (l : List Group). merged l (keptGroups ks)) (grouped-are S counts f c R copied F ∙ ap (map (groupIn S counts)) e))
-      go (o ∷ os) e = ap (λ (l : List ℕ). map item (mergedItems firstTest (ownLeft sameTest firstTest (take r ord) l) (keepIf (keptStands sameTest firstTest l) (take r ord)))) e ∙ merged-one o os e
+      go (o ∷ os) e = ap (λ (l : List ℕ). map item (mergedItems firstIn (ownLeft sameIn firstIn (take r ord) l) (keepIf (keptStands sameIn firstIn l) (take r ord)))) e ∙ merged-one o os e

@@ -1,8 +1,8 @@
--- The words of a kept reading as they are walked: those of the definition's group, and its hash and length are theirs. Assumes nothing.
-use mathlib.Core.Path.{_≡_, refl, sym, ap, ap₂, _∙_, subst}
+-- The words of own groups and kept readings as they are walked: those of the definition's groups. A kept reading's hash and length are theirs. Assumes nothing.
+use mathlib.Core.Path.{_≡_, refl, sym, ap, ap₂, _∙_}
 use Prim.Native.Nat.{ℕ, _≤_}
 use mathlib.Core.Bool.{Bool, true, false, not, _&&_, _||_}
-use mathlib.Core.List.{List, reverse, reverse-reverse}
+use mathlib.Core.List.{List, [], reverse, reverse-reverse}
 use lib.Dec.{ltb, eqb}
 use lib.IntN.{ℤ}
 use lib.ListN.{length}
@@ -11,22 +11,29 @@ use Rattle.lists.specs.Lists.{_∈_}
 use Rattle.model.specs.Basics.{_≺_, 0f}
 use Rattle.model.specs.Path.{Path, Token}
 use Rattle.model.specs.Hash.{hashWords}
-use Rattle.model.specs.Reads.{Ranked, Group, trace}
+use Rattle.model.specs.Reads.{Ranked, trace}
 use Rattle.model.specs.Readings.{Below, below, Kept, keptOf, keptGroup, wordsLt, isOwn, readOrder}
-use Rattle.copy_laws.specs.Routes.{trace-words}
+use Rattle.copy_laws.specs.Routes.{trace-words, own-words}
 use Rattle.copy_laws.specs.Below.{wordsBackAlong, Keyed, below-keyed}
 use Rattle.copy_laws.specs.Shapes.{Falling}
 use Rattle.groups.specs.Firsts.{linkAt}
 use Rattle.below.specs.Stored.{standsFor, Decoded}
 use Rattle.kept_readings.specs.declared.KeptReading.{KeptReading}
 use Rattle.kept_readings.specs.Meaning.{asKept}
-use Rattle.routes.specs.Back.{backAlong}
 use Rattle.routes.specs.Entries.{joinsOf}
 use Rattle.routes.specs.Joins.{numbers-are, joins-routed}
 use Rattle.routes.specs.Told.{words-told}
+use Rattle.merged.specs.Twins.{ownWords}
 use Rattle.kept_order.specs.Before.{wordsBack, keptWords, readsBefore}
 use Rattle.listing_laws.specs.Situation.{Situation, Held}
-use Rattle.listing_laws.specs.Owns.{rankIn, link-in}
+use Rattle.listing_laws.specs.Owns.{rankIn, groupIn, link-in}
+
+module _ {tk : List ℕ} {sm fs : List Float} {rs : List ℕ} {ls : List ℤ} {gs : List Float} {n b used : ℕ} {keeps : Bool} {margin : Float} (S : Situation tk sm fs rs ls gs n b used keeps margin) (counts : Bool) where
+  -- of an own group
+  pub own-words-are : (s : ℕ) → Held tk b n s → groupIn S counts s .words ≡ reverse (ownWords rs ls tk b s)
+  own-words-are s d =
+      let p = rankIn S counts s .token .path in
+      own-words p ∙ sym (trace-words 0 [] p 0f) ∙ words-told (S .stands) 0 (linkAt tk b s) p 0f (link-in S counts s d) [] (λ x k. elim k [ ])
 
 module _ {tk : List ℕ} {sm fs : List Float} {rs : List ℕ} {ls : List ℤ} {gs : List Float} {n b used : ℕ} {keeps : Bool} {margin : Float} (S : Situation tk sm fs rs ls gs n b used keeps margin) (counts : Bool) {hs ns : List ℕ} {xs : List Float} {bs : List Below} (D : Decoded (S .h) used hs ns xs bs) where
   abbrev stand : KeptReading → Kept
@@ -36,6 +43,7 @@ module _ {tk : List ℕ} {sm fs : List Float} {rs : List ℕ} {ls : List ℤ} {g
     abbrev path : Path
     path = rankIn S counts (k .state) .token .path
 
+    -- of a kept reading
     pub kept-words : keptGroup (stand k) .words ≡ keptWords tk rs ls b ns k
     kept-words =
         ap (λ (route : List ℕ). trace 0 route path 0f .words) (sym (numbers-are D (k .entry) low))
@@ -59,6 +67,7 @@ module _ {tk : List ℕ} {sm fs : List Float} {rs : List ℕ} {ls : List ℤ} {g
       along-is : wordsBackAlong (way .route) (r .token .path) ≡ wordsBack tk rs ls b ns k
       along-is = sym (back-is ∙ ap₂ (λ (route : List ℕ) (t : Token). wordsBackAlong route (t .path)) (ap (λ (x : Below). x .route) key-is) token-is)
 
+      -- its hash and length are those of its words
       pub kept-hash : k .hash ≡ hashWords (wordsBack tk rs ls b ns k)
       kept-hash = ap (λ (x : Below). x .hash) key-is ∙ keyed .hash ∙ ap hashWords along-is
 
