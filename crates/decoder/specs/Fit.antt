@@ -1,17 +1,14 @@
 -- The fitter. Assumes nothing.
 use mathlib.Core.Path.{_≡_, refl, sym, ap, ap₂, _∙_, subst}
-use Prim.Native.Nat.{ℕ, _+_, _-_, _/_, _≤_, _<_}
+use Prim.Native.Nat.{ℕ, _+_, _/_, _≤_}
 use native.Mathlib.Omega.{arith}
-use mathlib.Core.Bool.{Bool, true, false, not, _||_, cond}
+use mathlib.Core.Bool.{Bool, true, false, _||_}
 use mathlib.Core.Option.{Option, none, some}
 use mathlib.Core.List.{List, [], _∷_, List·Memᴰ·head as here, List·Memᴰ·tail as there}
-use lib.Dec.{T, leb, ltb}
+use lib.Dec.{T, ltb}
 use lib.ListN.{length, getD}
 use lib.Ieee.{Float, binary32, fits, nan}
-use borrow.Author.Tests.{leb-true, ltb-true, ltb-false, not-false, lt-ltb, le-ltb, le-leb, lt-leb}
-use Rattle.lists.specs.Lists.{all}
-use Rattle.lists.specs.Members.{member-at, all-each}
-use Rattle.lists.specs.Tests.{case, lt-or-le, or-neither}
+use Rattle.lists.specs.Members.{member-at}
 use Rattle.model.specs.Basics.{0f, Refusal as ModelRefusal, refuse}
 use Rattle.model.specs.Graph.{Graph, states, hasEps, runsFrom0, checkGraph}
 use Rattle.model.specs.Checked.{GoodGraph, checked}
@@ -28,6 +25,7 @@ use Rattle.fst.specs.declared.Place.the-variants.{Nowhere}
 use Rattle.fst.specs.declared.Built.the-variants.{Accepted, Refused as NotBuilt}
 use Rattle.fst.specs.Answer.{buildOf, builtOf, valueOf, refusalOf, was-accepted}
 use Rattle.fst.specs.Epsilons.{EpsFilled, eps-at, bit}
+use Rattle.checks.specs.Fit.{leastOf, least-each, configWrong, perStateWrong, places-in}
 use Rattle.arcs.specs.declared.Pass.the-variants.{Nonemitting}
 use Rattle.arcs.specs.State.{Tables, TablesOf}
 use Rattle.decoder.specs.declared.Decoder.{Decoder}
@@ -40,28 +38,21 @@ use Rattle.decoder.specs.Begin.{BeginGiven, BeginAsks, BeginIs}
 
 -- ---- places
 
-abbrev pub least : ℕ → ℕ → ℕ
-least a b = cond (ltb b a) b a
-
-abbrev pub capacityOf : Lent → ℕ
-capacityOf m = least (length (m .records) / 8) (least (length (m .labels) / 2) (length (m .gaps) / 2))
+-- the places for records: of the store, and of the slices that are kept per record
+abbrev pub capacityOf : Lent → (perRecord : List ℕ) → ℕ
+capacityOf m perRecord = leastOf (length (m .records) / 8) (length (m .labels) / 2 ∷ length (m .gaps) / 2 ∷ perRecord)
 
 -- the lengths of the slices that a call works in, each with a place for every state
-abbrev pub scratchOf : List Float → (keys places order : List ℕ) → List ℕ
-scratchOf sc ks ps os = length sc ∷ length ks ∷ length ps ∷ length os ∷ []
+abbrev pub scratchOf : List Float → (keys places own heads list : List ℕ) → List ℕ
+scratchOf sc ks ps os hs ls = length sc ∷ length ks ∷ length ps ∷ length os ∷ length hs ∷ length ls ∷ []
+
+-- the places per record of those that the reading list works in
+abbrev pub perRecordOf : (lists route : List ℕ) → List ℕ
+perRecordOf ls rt = length ls / 2 ∷ length rt ∷ []
 
 -- the places that are judged: of each store that is kept per state, and of the records
-abbrev pub placesOf : Lent → (scratch : List ℕ) → (eps : ℕ) → FitPlaces
-placesOf m scratch eps = record { perState = length (m .tokens) / 8 ∷ length (m .sums) / 4 ∷ eps ∷ scratch; records = capacityOf m }
-
-abbrev pub configWrong : Config → Bool
-configWrong c = not (fair (c .beam)) || not (fair (c .«beam_delta»)) || leb (c .«max_active») (c .«min_active»)
-
-abbrev pub scratchWrong : (n : ℕ) → (scratch : List ℕ) → Bool
-scratchWrong n scratch = not (all (λ k. leb n k) scratch)
-
-abbrev pub perStateWrong : (n tokens sums eps : ℕ) → (scratch : List ℕ) → Bool
-perStateWrong n tk sm ep scratch = scratchWrong n (tk / 8 ∷ sm / 4 ∷ ep ∷ scratch)
+abbrev pub placesOf : Lent → (scratch perRecord : List ℕ) → (eps : ℕ) → FitPlaces
+placesOf m scratch perRecord eps = record { perState = length (m .tokens) / 8 ∷ length (m .sums) / 4 ∷ eps ∷ scratch; records = capacityOf m perRecord }
 
 abbrev pub unfit : Refusal
 unfit = record { number = 6; place = Nowhere }
@@ -76,41 +67,23 @@ fittedBy (CallDone d) = Done d
 fittedBy (CallRefused d f) = Refused d f
 
 -- A refused graph, settings that are refused, or the answer of the fitting's own start, at the exact limits. What is refused by 1 to 6 changes nothing.
-pub data FitIs (g : Graph) (T : Tables) (m m' : Lent) (scratch : List ℕ) (places : ℕ) (eps eps' : List ℕ) (c : Config) : Fitted → Type 0 where
-  fitGraph : (w : ModelRefusal) → checkGraph g ≡ some w → m' ≡ m → eps' ≡ eps → FitIs g T m m' scratch places eps eps' c (Unfit (refusalOf w))
-  fitUnfit : checkGraph g ≡ none → checkFit g (configOf c) (placesOf m scratch (length eps)) ≡ some 6 → m' ≡ m → eps' ≡ eps → FitIs g T m m' scratch places eps eps' c (Unfit unfit)
-  fitCalled : {r : Called} → checkGraph g ≡ none → checkFit g (configOf c) (placesOf m scratch (length eps)) ≡ none
-      → ((l : Limits) → LimitsAre l (capacityOf m) places → CalledBy g (configOf c) l T m' eps' places (call g (configOf c) l startCall (fitted g)) r) → FitIs g T m m' scratch places eps eps' c (fittedBy r)
-
--- ---- the tests, one by one
-
-module _ (n k : ℕ) where
-  pub short-here : (more : List ℕ) → k < n → true ≡ scratchWrong n (k ∷ more)
-  short-here more h = rw (lt-leb n k h)
-
-  pub enough-here : (more : List ℕ) (b : Bool) → n ≤ k → b ≡ scratchWrong n more → b ≡ scratchWrong n (k ∷ more)
-  enough-here more b h e = rw (le-leb n k h) e
-
-  pub short-last : ltb k n ≡ scratchWrong n (k ∷ [])
-  short-last = case (lt-or-le k n) (λ h. rw (lt-ltb k n h, lt-leb n k h)) (λ h. rw (le-ltb k n h, le-leb n k h))
-
-pub wrong-first : (a b : Bool) → true ≡ a → true ≡ (a || b)
-wrong-first a b e = ap (λ (x : Bool). x || b) e
-
-pub wrong-second : (a b : Bool) → false ≡ a → b ≡ (a || b)
-wrong-second a b e = ap (λ (x : Bool). x || b) e
+pub data FitIs (g : Graph) (T : Tables) (m m' : Lent) (scratch perRecord : List ℕ) (places : ℕ) (eps eps' : List ℕ) (c : Config) : Fitted → Type 0 where
+  fitGraph : (w : ModelRefusal) → checkGraph g ≡ some w → m' ≡ m → eps' ≡ eps → FitIs g T m m' scratch perRecord places eps eps' c (Unfit (refusalOf w))
+  fitUnfit : checkGraph g ≡ none → checkFit g (configOf c) (placesOf m scratch perRecord (length eps)) ≡ some 6 → m' ≡ m → eps' ≡ eps → FitIs g T m m' scratch perRecord places eps eps' c (Unfit unfit)
+  fitCalled : {r : Called} → checkGraph g ≡ none → checkFit g (configOf c) (placesOf m scratch perRecord (length eps)) ≡ none
+      → ((l : Limits) → LimitsAre l (capacityOf m perRecord) places → CalledBy g (configOf c) l T m' eps' places (call g (configOf c) l startCall (fitted g)) r) → FitIs g T m m' scratch perRecord places eps eps' c (fittedBy r)
 
 -- ---- the checks
 
-module _ (g : Graph) (m : Lent) (scratch : List ℕ) (eps : ℕ) (c : Config) where
+module _ (g : Graph) (m : Lent) (scratch perRecord : List ℕ) (eps : ℕ) (c : Config) where
   abbrev ps : FitPlaces
-  ps = placesOf m scratch eps
+  ps = placesOf m scratch perRecord eps
 
   abbrev per : Bool
   per = perStateWrong (states g) (length (m .tokens)) (length (m .sums)) eps scratch
 
   abbrev many : Bool
-  many = ltb 1_048_576 (capacityOf m)
+  many = ltb 1_048_576 (capacityOf m perRecord)
 
   or-assoc : (a b d : Bool) → (a || b || d) ≡ (a || (b || d))
   or-assoc true b d = refl
@@ -131,13 +104,6 @@ module _ (g : Graph) (m : Lent) (scratch : List ℕ) (eps : ℕ) (c : Config) wh
 
 -- ---- the new decoder is one that a start can be given
 
-least-le : (a b : ℕ) → (least a b ≤ a) × (least a b ≤ b)
-least-le a b = go (ltb b a) refl
-  where
-    go : (t : Bool) → ltb b a ≡ t → (cond t b a ≤ a) × (cond t b a ≤ b)
-    go true e = let z = ltb-true b a e in (omega arith, omega arith)
-    go false e = let z = ltb-false b a e in (omega arith, omega arith)
-
 -- what the code knows of a slice of f32 values
 pub all-known : (xs : List Float) → ((i : ℕ) → T (fits binary32 (getD xs i nan))) → All32 xs
 all-known xs k x m = let (i, l, e) = member-at xs x nan m in subst (λ (y : Float). T (fits binary32 y)) e (k i)
@@ -146,13 +112,6 @@ bit-test : (b : Bool) → ltb 0 (bit b) ≡ b
 bit-test true = refl
 bit-test false = refl
 
--- stores that are not refused have the places
-pub places-in : (n tk sm ep : ℕ) (scratch : List ℕ) (k : ℕ) → (perStateWrong n tk sm ep scratch || ltb 1_048_576 k) ≡ false → (n ≤ tk / 8) × (n ≤ sm / 4) × (n ≤ ep) × (k ≤ 1_048_576)
-places-in n tk sm ep scratch k e =
-    let no = or-neither (perStateWrong n tk sm ep scratch) (ltb 1_048_576 k) e in
-    let z = all-each (λ j. leb n j) (tk / 8 ∷ sm / 4 ∷ ep ∷ scratch) (not-false (all (λ j. leb n j) (tk / 8 ∷ sm / 4 ∷ ep ∷ scratch)) (no .0)) in
-    (leb-true n (tk / 8) (z (tk / 8) (here refl)), leb-true n (sm / 4) (z (sm / 4) (there (here refl))), leb-true n ep (z ep (there (there (here refl)))), ltb-false 1_048_576 k (no .1))
-
 -- what filling the table of epsilon states asks
 pub fill-asks : (g : Graph) (v : Value) → Accepted v ≡ buildOf g → (ep : ℕ) → v .states ≤ ep → (runsFrom0 (length (g .ilabels)) (g .offsets) ≡ true) × (length (g .offsets) ≤ ep + 1)
 fill-asks g v built ep l =
@@ -160,8 +119,8 @@ fill-asks g v built ep l =
     let sh = checked g (w .0) .shape in
     (sh .rising, let z = sh .offsets in let e = ap (λ (x : Value). x .states) (w .1) in omega arith)
 
-module _ (g : Graph) (T : Tables) (m : Lent) (scratch : List ℕ) (places : ℕ) (eps eps' : List ℕ) (c : Config) (v : Value) (built : Accepted v ≡ buildOf g) (of : TablesOf g Nonemitting T) (floats : Floats32 g) (long : length eps' ≡ length eps)
-    (filled : EpsFilled (g .offsets) (g .ilabels) eps eps') (stores-ok : (perStateWrong (v .states) (length (m .tokens)) (length (m .sums)) (length eps) scratch || ltb 1_048_576 (capacityOf m)) ≡ false) where
+module _ (g : Graph) (T : Tables) (m : Lent) (scratch perRecord : List ℕ) (places : ℕ) (eps eps' : List ℕ) (c : Config) (v : Value) (built : Accepted v ≡ buildOf g) (of : TablesOf g Nonemitting T) (floats : Floats32 g) (long : length eps' ≡ length eps)
+    (filled : EpsFilled (g .offsets) (g .ilabels) eps eps') (stores-ok : (perStateWrong (v .states) (length (m .tokens)) (length (m .sums)) (length eps) scratch || ltb 1_048_576 (capacityOf m perRecord)) ≡ false) where
   pub accepted : checkGraph g ≡ none
   accepted = was-accepted g v built .0
 
@@ -174,26 +133,24 @@ module _ (g : Graph) (T : Tables) (m : Lent) (scratch : List ℕ) (places : ℕ)
   states-are : v .states ≡ states g
   states-are = ap (λ (x : Value). x .states) value-is
 
-  small : capacityOf m ≤ 1_048_576
-  small = places-in (v .states) (length (m .tokens)) (length (m .sums)) (length eps) scratch (capacityOf m) stores-ok .3
+  small : capacityOf m perRecord ≤ 1_048_576
+  small = places-in (v .states) (length (m .tokens)) (length (m .sums)) (length eps) scratch (capacityOf m perRecord) stores-ok .3
 
-  room : Places (v .states) (capacityOf m) m
+  room : Places (v .states) (capacityOf m perRecord) m
   room =
-      let z = places-in (v .states) (length (m .tokens)) (length (m .sums)) (length eps) scratch (capacityOf m) stores-ok in
+      let z = places-in (v .states) (length (m .tokens)) (length (m .sums)) (length eps) scratch (capacityOf m perRecord) stores-ok in
       let x = z .0 in
       let y = z .1 in
-      let p = least-le (length (m .records) / 8) (least (length (m .labels) / 2) (length (m .gaps) / 2)) in
-      let q = least-le (length (m .labels) / 2) (length (m .gaps) / 2) in
-      let p0 = p .0 in
-      let p1 = p .1 in
-      let q0 = q .0 in
-      let q1 = q .1 in
+      let p = least-each (length (m .records) / 8) (length (m .labels) / 2 ∷ length (m .gaps) / 2 ∷ perRecord) in
+      let p0 = p (length (m .records) / 8) (here refl) in
+      let p1 = p (length (m .labels) / 2) (there (here refl)) in
+      let p2 = p (length (m .gaps) / 2) (there (there (here refl))) in
       record { tokens = omega arith; sums = omega arith; store = record { records = omega arith; labels = omega arith; gaps = omega arith } }
 
   eps-room : v .states ≤ length eps
-  eps-room = places-in (v .states) (length (m .tokens)) (length (m .sums)) (length eps) scratch (capacityOf m) stores-ok .2
+  eps-room = places-in (v .states) (length (m .tokens)) (length (m .sums)) (length eps) scratch (capacityOf m perRecord) stores-ok .2
 
-  pub begin-given : (l : Limits) → LimitsAre l (capacityOf m) places → BeginGiven g (configOf c) l T m eps' places (newDecoder v c (capacityOf m)) (fitted g)
+  pub begin-given : (l : Limits) → LimitsAre l (capacityOf m perRecord) places → BeginGiven g (configOf c) l T m eps' places (newDecoder v c (capacityOf m perRecord)) (fitted g)
   begin-given l L =
       record {
         fixed = record {
@@ -217,33 +174,33 @@ module _ (g : Graph) (T : Tables) (m : Lent) (scratch : List ℕ) (places : ℕ)
 
   -- the limits of the lent stores
   abbrev own : Limits
-  own = record { full = fullAt (capacityOf m); queue = some places; below = none; kept = none }
+  own = record { full = fullAt (capacityOf m perRecord); queue = some places; below = none; kept = none }
 
-  pub begin-asks : (d : Decoder) → d ≡ newDecoder v c (capacityOf m) → BeginAsks T m eps' places d
+  pub begin-asks : (d : Decoder) → d ≡ newDecoder v c (capacityOf m perRecord) → BeginAsks T m eps' places d
   begin-asks d e =
       subst (BeginAsks T m eps' places) (sym e) (record { g = g; c = configOf c; l = own; st = fitted g; is = begin-given own (record { full = λ ps. refl; queue = refl }) })
 
-  pub fit-called : configWrong c ≡ false → (d : Decoder) → d ≡ newDecoder v c (capacityOf m) → (m' : Lent) (r : Called) → BeginIs T m m' eps' places d r → (f : Fitted) → f ≡ fittedBy r → FitIs g T m m' scratch places eps eps' c f
+  pub fit-called : configWrong c ≡ false → (d : Decoder) → d ≡ newDecoder v c (capacityOf m perRecord) → (m' : Lent) (r : Called) → BeginIs T m m' eps' places d r → (f : Fitted) → f ≡ fittedBy r → FitIs g T m m' scratch perRecord places eps eps' c f
   fit-called w d e m' r B f q =
-      subst (FitIs g T m m' scratch places eps eps' c) (sym q)
+      subst (FitIs g T m m' scratch perRecord places eps eps' c) (sym q)
       (fitCalled accepted
-      (fit-accepted g m scratch (length eps) c w (subst (λ (n : ℕ). (perStateWrong n (length (m .tokens)) (length (m .sums)) (length eps) scratch || ltb 1_048_576 (capacityOf m)) ≡ false) states-are stores-ok))
+      (fit-accepted g m scratch perRecord (length eps) c w (subst (λ (n : ℕ). (perStateWrong n (length (m .tokens)) (length (m .sums)) (length eps) scratch || ltb 1_048_576 (capacityOf m perRecord)) ≡ false) states-are stores-ok))
       (λ l L. subst (λ (y : Decoder). BeginIs T m m' eps' places y r) e B g (configOf c) l (fitted g) (begin-given l L)))
 
 -- refused before anything is written
-module _ (g : Graph) (T : Tables) (m : Lent) (scratch : List ℕ) (places : ℕ) (eps : List ℕ) (c : Config) where
-  pub graph-refused : (f : Refusal) → NotBuilt f ≡ buildOf g → FitIs g T m m scratch places eps eps c (Unfit f)
+module _ (g : Graph) (T : Tables) (m : Lent) (scratch perRecord : List ℕ) (places : ℕ) (eps : List ℕ) (c : Config) where
+  pub graph-refused : (f : Refusal) → NotBuilt f ≡ buildOf g → FitIs g T m m scratch perRecord places eps eps c (Unfit f)
   graph-refused f e = go (checkGraph g) refl e
     where
-      go : (o : Option ModelRefusal) → checkGraph g ≡ o → NotBuilt f ≡ builtOf g o → FitIs g T m m scratch places eps eps c (Unfit f)
+      go : (o : Option ModelRefusal) → checkGraph g ≡ o → NotBuilt f ≡ builtOf g o → FitIs g T m m scratch perRecord places eps eps c (Unfit f)
       go none q b = let z : _≡_ {A = ℕ} 0 1 = cc in absurd (omega arith)
-      go (some w) q b = let z : f ≡ refusalOf w = cc in subst (λ (y : Refusal). FitIs g T m m scratch places eps eps c (Unfit y)) (sym z) (fitGraph w q refl refl)
+      go (some w) q b = let z : f ≡ refusalOf w = cc in subst (λ (y : Refusal). FitIs g T m m scratch perRecord places eps eps c (Unfit y)) (sym z) (fitGraph w q refl refl)
 
-  pub config-unfit : (v : Value) → Accepted v ≡ buildOf g → configWrong c ≡ true → FitIs g T m m scratch places eps eps c (Unfit unfit)
-  config-unfit v b e = fitUnfit (was-accepted g v b .0) (config-refused g m scratch (length eps) c e) refl refl
+  pub config-unfit : (v : Value) → Accepted v ≡ buildOf g → configWrong c ≡ true → FitIs g T m m scratch perRecord places eps eps c (Unfit unfit)
+  config-unfit v b e = fitUnfit (was-accepted g v b .0) (config-refused g m scratch perRecord (length eps) c e) refl refl
 
-  pub stores-unfit : (v : Value) → Accepted v ≡ buildOf g → configWrong c ≡ false → (perStateWrong (v .states) (length (m .tokens)) (length (m .sums)) (length eps) scratch || ltb 1_048_576 (capacityOf m)) ≡ true
-      → FitIs g T m m scratch places eps eps c (Unfit unfit)
+  pub stores-unfit : (v : Value) → Accepted v ≡ buildOf g → configWrong c ≡ false → (perStateWrong (v .states) (length (m .tokens)) (length (m .sums)) (length eps) scratch || ltb 1_048_576 (capacityOf m perRecord)) ≡ true
+      → FitIs g T m m scratch perRecord places eps eps c (Unfit unfit)
   stores-unfit v b e d =
       fitUnfit (was-accepted g v b .0)
-      (stores-refused g m scratch (length eps) c e (subst (λ (n : ℕ). (perStateWrong n (length (m .tokens)) (length (m .sums)) (length eps) scratch || ltb 1_048_576 (capacityOf m)) ≡ true) (ap (λ (x : Value). x .states) (was-accepted g v b .1)) d)) refl refl
+      (stores-refused g m scratch perRecord (length eps) c e (subst (λ (n : ℕ). (perStateWrong n (length (m .tokens)) (length (m .sums)) (length eps) scratch || ltb 1_048_576 (capacityOf m perRecord)) ≡ true) (ap (λ (x : Value). x .states) (was-accepted g v b .1)) d)) refl refl

@@ -8,8 +8,7 @@ use mathlib.Core.Bool.{Bool, true, false, not, _&&_, cond}
 use mathlib.Core.Option.{Option, none, some}
 use mathlib.Core.List.{List, [], _∷_, _++_, List·Memᴰ·head as here, List·Memᴰ·tail as there}
 use lib.Dec.{T, leb, ltb, eqb}
-use lib.ListN.{length, getD, drop}
-use lib.Seq.{drop-cons}
+use lib.ListN.{length, getD}
 use lib.Ieee.{Float}
 use Rattle.lists.specs.Lists.{_∈_, all}
 use Rattle.lists.specs.Tests.{below-more, holds}
@@ -46,6 +45,7 @@ use Rattle.arcs.specs.Ended.{EndedBy, endedRefused, endedOn}
 use Rattle.arcs.specs.State.{Tables, tables}
 use Rattle.emitting.specs.Whole.{PassGiven, EmittingIs}
 use Rattle.nonemitting.specs.Pass.{NonemittingGiven, NonemittingIs}
+use Rattle.checks.specs.Frame.{numberOf, frameNumber}
 use Rattle.decoder.specs.declared.Decoder.{Decoder}
 use Rattle.decoder.specs.declared.Called.{Called}
 use Rattle.decoder.specs.declared.Called.the-variants.{Done, Refused}
@@ -198,24 +198,7 @@ newest-more tk sm b n r k N x e (up, over-it, one) =
     go (inl q) (inr (s, l, z)) = inr (s, omega arith, z ∙ sym q)
     go (inr q) w = inr (n, omega arith, sym (q ∙ ap (λ (y : Stored). y .link) e))
 
--- every log-likelihood, one after the other
-pub all-next : (p : Float → Bool) (xs : List Float) (i : ℕ) (d : Float) → i < length xs → all p (drop i xs) ≡ (p (getD xs i d) && all p (drop (i + 1) xs))
-all-next p xs i d l =
-    let one : suc i ≡ i + 1 = omega arith in
-    ap (all p) (drop-cons xs i d l) ∙ ap (λ (k : ℕ). p (getD xs i d) && all p (drop k xs)) one
-
 -- ---- a frame
-
--- the number that a frame is refused by before its passes; 0 for none
-abbrev pub numberOf : Option ℕ → ℕ
-numberOf none = 0
-numberOf (some n) = n
-
-abbrev pub numbered : (a b t : Bool) → ℕ
-numbered a b t = numberOf (firstOf (refuse 10 a ∷ refuse 8 b ∷ refuse 9 t ∷ []))
-
-abbrev pub frameNumber : (loglikes : List Float) → (frames pdfs : ℕ) → ℕ
-frameNumber ls n pdfs = numbered (leb 65_536 n) (not (eqb (length ls) pdfs)) (not (all tame ls))
 
 -- back at the finished table
 pub record BackIs (tk : List ℕ) (sm : List Float) (d r : Decoder) : Type 0 where

@@ -2,7 +2,9 @@ pub mod Represents
 pub mod Begin
 pub mod Frame
 pub mod Reads
+pub mod Listed
 pub mod Fit
+pub mod Capacity
 pub mod Held
 pub mod Behaves
 pub mod Says

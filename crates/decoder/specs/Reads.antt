@@ -1,23 +1,19 @@
 -- The keep margin, and the reads. Assumes nothing.
-use mathlib.Core.Path.{_≡_, refl, sym, ap, _∙_, subst}
+use mathlib.Core.Path.{_≡_, refl, sym, ap, subst}
 use Prim.Native.Nat.{ℕ, _-_, _*_, _≤_}
 use native.Mathlib.Omega.{arith}
-use mathlib.Core.Bool.{Bool, true, false, _&&_, cond}
-use mathlib.Core.Option.{Option, none, some}
+use mathlib.Core.Bool.{Bool, true, false, cond}
 use mathlib.Core.List.{List, [], _∷_, List·Memᴰ·head as here, List·Memᴰ·tail as there}
 use lib.IntN.{ℤ}
 use lib.ListN.{length}
 use lib.Dec.{T}
-use lib.Ieee.{Float, neg, lt}
+use lib.Ieee.{Float}
 use Rattle.lists.specs.Lists.{_∈_}
-use Rattle.lists.specs.Tests.{holds, is-true}
-use Rattle.real32.specs.Order.{lt-le-trans}
-use Rattle.real32.specs.Small.{huge, tame}
-use Rattle.model.specs.Basics.{_≺_, _≼_, 0f, nowhere, Outcome, ok, refused}
+use Rattle.model.specs.Basics.{nowhere, Outcome, ok, refused}
 use Rattle.model.specs.Graph.{Graph, states}
 use Rattle.model.specs.Path.{Limits}
 use Rattle.model.specs.Cutoff.{Config as Settings}
-use Rattle.model.specs.Passes.{State, fair, fairMargin, setKeep}
+use Rattle.model.specs.Passes.{State, fairMargin, setKeep}
 use Rattle.model.specs.Calls.{bestPathRead, alternativesRead, relativeCostRead, numActiveRead, framesDecodedRead, keepCall, readCall, countAnswer, costAnswer, readAnswer, Said, said, call}
 use Rattle.joins.specs.declared.Margin.the-variants.{Off, Within}
 use Rattle.joins.specs.Model.{marginOf}
@@ -32,6 +28,7 @@ use Rattle.readings.specs.declared.Listed.{Listed}
 use Rattle.readings.specs.Paths.{Outputs, placesIn}
 use Rattle.readings.specs.Right.{AlternativesAsk, listedAs, ListedKeeps, AlternativesRight}
 use Rattle.readings.specs.Known.{ranks-known}
+pub use Rattle.checks.specs.Margin.{asked}
 use Rattle.decoder.specs.declared.Decoder.{Decoder}
 use Rattle.decoder.specs.declared.Called.{Called}
 use Rattle.decoder.specs.declared.Called.the-variants.{Done, Refused}
@@ -39,8 +36,10 @@ use Rattle.decoder.specs.Represents.{Represents, CalledBy, calledDone, c
 
 -- ---- the keep margin
 
-abbrev pub asked : (keeps : Bool) → Float → Option Float
-asked keeps x = cond keeps (some x) none
+-- the margin of the settings
+pub asked-is : (keeps : Bool) (x : Float) → asked keeps x ≡ marginOf (cond keeps (Within x) Off)
+asked-is true x = refl
+asked-is false x = refl
 
 abbrev pub withMargin : Decoder → Bool → Float → Decoder
 withMargin d keeps x = record { graph = d .graph; config = d .config; cap = d .cap; keeps = keeps; margin = x; side = d .side; frames = d .frames; seq = d .seq; used = d .used }
@@ -83,7 +82,7 @@ module _ {g : Graph} {c : Settings} {l : Limits} {T : Tables} {m : Lent} {eps : 
           eps-is = f .eps-is;
         };
         standing = record { active = R .standing .active; frames = R .standing .frames; few = R .standing .few; margin = e };
-        margin-is = margin-so keeps;
+        margin-is = asked-is keeps x;
         frames-are = R .frames-are;
         seq-is = R .seq-is;
         fits = R .fits;
@@ -92,28 +91,6 @@ module _ {g : Graph} {c : Settings} {l : Limits} {T : Tables} {m : Lent} {eps : 
         finished = R .finished;
         newest = R .newest;
       })))
-    where
-      margin-so : (b : Bool) → asked b x ≡ marginOf (cond b (Within x) Off)
-      margin-so true = refl
-      margin-so false = refl
-
--- the code's two tests are the definition's
-and-true : (b : Bool) → (b && true) ≡ b
-and-true true = refl
-and-true false = refl
-
-below-zero : T (lt (neg huge) 0f)
-unfolding lt neg
-below-zero = tt
-
-pub fair-is : (x : Float) → (0f ≼ x) ≡ true → tame x ≡ fair x
-unfolding tame fair
-fair-is x e =
-    ap (λ (b : Bool). x ≺ huge && b) (is-true (lt-le-trans (neg huge) 0f x below-zero (holds e))) ∙ and-true (x ≺ huge) ∙ sym (ap (λ (b : Bool). b && x ≺ huge) e)
-
-pub unfair-is : (x : Float) → (0f ≼ x) ≡ false → false ≡ fair x
-unfolding fair
-unfair-is x e = sym (ap (λ (b : Bool). b && x ≺ huge) e)
 
 -- ---- the reads, of stores that a call has left
 

@@ -1,25 +1,23 @@
 // The decoder over lent stores: the fitter, starts, frames, the keep margin, and the reads.
 ghost use mathlib.Core.Path.{_≡_};
 ghost use mathlib.Core.Logic.{_⊎_};
-ghost use mathlib.Core.Bool.{not, _||_};
-ghost use Prim.Native.Nat.{_*_, _≤_, _<_, _/_};
+ghost use Prim.Native.Nat.{_*_, _-_, _≤_, _<_};
 ghost use mathlib.Core.List.{[], _∷_};
-ghost use lib.Dec.{ltb};
 ghost use lib.ListN.{length};
-ghost use Rattle.lists.specs.Lists.{all};
-ghost use Rattle.real32.specs.Small.{tame};
 ghost use Rattle.stores.specs.Rep.{lent};
 ghost use Rattle.arcs.specs.State.{tables};
 ghost use Rattle.nonemitting.specs.Expand.{graphTables};
-ghost use Rattle.model.specs.Passes.{fair, fairMargin};
 ghost use Rattle.traceback.specs.Right.{parts};
 ghost use Rattle.readings.specs.Paths.{outputs};
+ghost use Rattle.listing.specs.Places.{entryPlaces, keptPlaces};
+ghost use Rattle.reading_list.specs.Outputs.{outputs as listOutputs};
 ghost use Rattle.fst.specs.Answer.{graphOf};
 ghost use Rattle.decoder.specs.Represents.{settingOf, Left, FrameLeft};
 ghost use Rattle.decoder.specs.Begin.{movedTo, emptiedOf, turnedOf, BothCleared, BeginAsks, BeginIs};
-ghost use Rattle.decoder.specs.Fit.{least, configWrong, scratchOf, scratchWrong, perStateWrong, fittedBy, newDecoder, FitIs};
-ghost use Rattle.decoder.specs.Frame.{frameNumber, NewestIs, BackIs, RunGiven, RunIs, StartIs, FrameIs};
-ghost use Rattle.decoder.specs.Reads.{asked, withMargin, KeepIs, FramesIs, ActiveLeft, ActiveIs, RelativeLeft, RelativeCostIs, FinalsLeft, BestPathIs, AlternativesLeft, AlternativesIs};
+ghost use Rattle.decoder.specs.Fit.{perRecordOf, scratchOf, fittedBy, newDecoder, FitIs};
+ghost use Rattle.decoder.specs.Frame.{NewestIs, BackIs, RunGiven, RunIs, StartIs, FrameIs};
+ghost use Rattle.decoder.specs.Listed.{ReadingsLeft, ReadingsIs};
+ghost use Rattle.decoder.specs.Reads.{withMargin, KeepIs, FramesIs, ActiveLeft, ActiveIs, RelativeLeft, RelativeCostIs, FinalsLeft, BestPathIs, AlternativesLeft, AlternativesIs};
 use arcs::Passed;
 use arcs::Work;
 use arrivals::Setting;
@@ -29,6 +27,7 @@ use fst::Graph;
 use fst::NO_STATE;
 use fst::Place;
 use fst::Refusal;
+use reading_list::ReadingList;
 use readings::Listed;
 use tokens::Token;
 use traceback::BestPath;
@@ -197,90 +196,6 @@ fn begin(
     }
 }
 
-// Not negative, finite and below 2^100.
-fn is_fair(x: f32) -> bool
-    ensures { λ r. ⌜ r ≡ fair x ⌝ }
-{
-    0.0 <= x && real32::is_tame(x)
-}
-
-// 6, of the settings.
-fn config_wrong(config: Config) -> bool
-    ensures { λ r. ⌜ r ≡ configWrong config ⌝ }
-{
-    if !is_fair(config.beam) {
-        return true;
-    }
-    if !is_fair(config.beam_delta) {
-        return true;
-    }
-    config.max_active <= config.min_active
-}
-
-fn smaller(a: usize, b: usize) -> usize
-    ensures { λ r. ⌜ r ≡ least a b ⌝ }
-{
-    if b < a { b } else { a }
-}
-
-// The places for records: eight numbers in one slice, and two in each of two others.
-fn capacity(records: &[u32], labels: &[i32], gaps: &[f32]) -> usize
-    ensures { λ r. ⌜ r ≡ least (length (now (records .entry)) / 8) (least (length (now (labels .entry)) / 2) (length (now (gaps .entry)) / 2)) ⌝ }
-{
-    smaller(records.len() / 8, smaller(labels.len() / 2, gaps.len() / 2))
-}
-
-// Whether a slice that a call works in has fewer places than states.
-fn scratch_wrong(
-    scratch: &[f32],
-    keys: &[u64],
-    places: &[u32],
-    order: &[u32],
-    states: usize,
-) -> bool
-    ensures { λ r. ⌜ r ≡ scratchWrong states (scratchOf (now (scratch .entry)) (now (keys .entry)) (now (places .entry)) (now (order .entry))) ⌝ }
-{
-    if scratch.len() < states {
-        return true;
-    }
-    if keys.len() < states {
-        return true;
-    }
-    if places.len() < states {
-        return true;
-    }
-    order.len() < states
-}
-
-// 6, of the stores: each that is kept per state has a place for every state, and no more than 1,048,576 records.
-fn stores_wrong(
-    tokens: &[u32],
-    sums: &[f32],
-    scratch: &[f32],
-    keys: &[u64],
-    places: &[u32],
-    order: &[u32],
-    eps: &[u8],
-    states: usize,
-    cap: usize,
-) -> bool
-    ensures { λ r. ⌜ r ≡ (perStateWrong states (length (now (tokens .entry))) (length (now (sums .entry))) (length (now (eps .entry))) (scratchOf (now (scratch .entry)) (now (keys .entry)) (now (places .entry)) (now (order .entry))) || ltb 1_048_576 cap) ⌝ }
-{
-    if tokens.len() / 8 < states {
-        return true;
-    }
-    if sums.len() / 4 < states {
-        return true;
-    }
-    if eps.len() < states {
-        return true;
-    }
-    if scratch_wrong(scratch, keys, places, order, states) {
-        return true;
-    }
-    1_048_576 < cap
-}
-
 fn new_decoder(graph: Graph, config: Config, cap: u32) -> Decoder
     ensures { λ r. ⌜ r ≡ newDecoder graph config cap ⌝ }
 {
@@ -317,7 +232,11 @@ pub fn fit(
     scratch: &[f32],
     keys: &[u64],
     places: &[u32],
-    order: &[u32],
+    own: &[u32],
+    heads: &[u32],
+    list: &[u32],
+    lists: &[u32],
+    route: &[u32],
     eps: &mut [u8],
     offsets: &[u32],
     ilabels: &[i32],
@@ -331,7 +250,7 @@ pub fn fit(
     pdfs: u32,
     config: Config,
 ) -> Fitted
-    ensures { λ r. ⌜ FitIs (graphOf (now (offsets .entry)) (now (ilabels .entry)) (now (olabels .entry)) (now (weights .entry)) (now (nextstates .entry)) (now (finals .entry)) (now (tid2pdf .entry)) (now (tid2phone .entry)) start pdfs) (graphTables (now (offsets .entry)) (now (ilabels .entry)) (now (olabels .entry)) (now (weights .entry)) (now (nextstates .entry)) (now (tid2pdf .entry)) (now (tid2phone .entry))) (lent (now (tokens .entry)) (now (sums .entry)) (now (records .entry)) (now (labels .entry)) (now (gaps .entry))) (lent (now (tokens .exit)) (now (sums .exit)) (now (records .exit)) (now (labels .exit)) (now (gaps .exit))) (scratchOf (now (scratch .entry)) (now (keys .entry)) (now (places .entry)) (now (order .entry))) (length (now (queue .entry))) (now (eps .entry)) (now (eps .exit)) config r ⌝ }
+    ensures { λ r. ⌜ FitIs (graphOf (now (offsets .entry)) (now (ilabels .entry)) (now (olabels .entry)) (now (weights .entry)) (now (nextstates .entry)) (now (finals .entry)) (now (tid2pdf .entry)) (now (tid2phone .entry)) start pdfs) (graphTables (now (offsets .entry)) (now (ilabels .entry)) (now (olabels .entry)) (now (weights .entry)) (now (nextstates .entry)) (now (tid2pdf .entry)) (now (tid2phone .entry))) (lent (now (tokens .entry)) (now (sums .entry)) (now (records .entry)) (now (labels .entry)) (now (gaps .entry))) (lent (now (tokens .exit)) (now (sums .exit)) (now (records .exit)) (now (labels .exit)) (now (gaps .exit))) (scratchOf (now (scratch .entry)) (now (keys .entry)) (now (places .entry)) (now (own .entry)) (now (heads .entry)) (now (list .entry))) (perRecordOf (now (lists .entry)) (now (route .entry))) (length (now (queue .entry))) (now (eps .entry)) (now (eps .exit)) config r ⌝ }
 {
     match fst::build(
         offsets,
@@ -347,21 +266,29 @@ pub fn fit(
     ) {
         Built::Refused(why) => Fitted::Unfit(why),
         Built::Accepted(graph) => {
-            if config_wrong(config) {
+            if checks::config_wrong(config) {
                 return Fitted::Unfit(Refusal {
                     number: 6,
                     place: Place::Nowhere,
                 });
             }
-            let cap = capacity(records, labels, gaps);
-            if stores_wrong(
-                tokens,
-                sums,
-                scratch,
-                keys,
-                places,
-                order,
-                eps,
+            let cap = checks::capacity(
+                records.len(),
+                labels.len(),
+                gaps.len(),
+                lists.len(),
+                route.len(),
+            );
+            if checks::stores_wrong(
+                tokens.len(),
+                sums.len(),
+                eps.len(),
+                scratch.len(),
+                keys.len(),
+                places.len(),
+                own.len(),
+                heads.len(),
+                list.len(),
                 graph.states as usize,
                 cap,
             ) {
@@ -431,34 +358,6 @@ pub fn start(
         tid2phone,
         decoder,
     )
-}
-
-// 9: a log-likelihood that is not finite, or of magnitude 2^100 or more.
-fn all_tame(loglikes: &[f32]) -> bool
-    ensures { λ r. ⌜ r ≡ all tame (now (loglikes .entry)) ⌝ }
-{
-    for i in 0..loglikes.len() {
-        if !real32::is_tame(loglikes[i]) {
-            return false;
-        }
-    }
-    true
-}
-
-// 10, 8, 9 of a frame; 0 for none.
-fn check_frame(loglikes: &[f32], frames: u32, pdfs: u32) -> u32
-    ensures { λ r. ⌜ r ≡ frameNumber (now (loglikes .entry)) frames pdfs ⌝ }
-{
-    if 65_536 <= frames {
-        return 10;
-    }
-    if loglikes.len() != pdfs as usize {
-        return 8;
-    }
-    if !all_tame(loglikes) {
-        return 9;
-    }
-    0
 }
 
 // The emitting pass, then the nonemitting one.
@@ -588,7 +487,7 @@ pub fn frame(
     requires { ⌜ FrameLeft (graphTables (now offsets) (now ilabels) (now olabels) (now weights) (now nextstates) (now tid2pdf) (now tid2phone)) (lent (now tokens) (now sums) (now records) (now labels) (now gaps)) (now eps) (length (now queue)) (length (now scratch)) decoder ⌝ }
     ensures { λ r. ⌜ FrameIs (graphTables (now (offsets .entry)) (now (ilabels .entry)) (now (olabels .entry)) (now (weights .entry)) (now (nextstates .entry)) (now (tid2pdf .entry)) (now (tid2phone .entry))) (lent (now (tokens .entry)) (now (sums .entry)) (now (records .entry)) (now (labels .entry)) (now (gaps .entry))) (lent (now (tokens .exit)) (now (sums .exit)) (now (records .exit)) (now (labels .exit)) (now (gaps .exit))) (now (eps .entry)) (length (now (queue .entry))) (now (loglikes .entry)) decoder r ⌝ }
 {
-    let wrong = check_frame(loglikes, decoder.frames, decoder.graph.pdfs);
+    let wrong = checks::check_frame(loglikes, decoder.frames, decoder.graph.pdfs);
     if wrong != 0 {
         return refused_at(decoder, wrong);
     }
@@ -638,21 +537,11 @@ fn with_margin(d: Decoder, keeps: bool, margin: f32) -> Decoder
     }
 }
 
-// 6: a margin that is negative, not finite, or 2^100 or more.
-fn margin_wrong(keeps: bool, margin: f32) -> bool
-    ensures { λ r. ⌜ r ≡ not (fairMargin (asked keeps margin)) ⌝ }
-{
-    if !keeps {
-        return false;
-    }
-    !is_fair(margin)
-}
-
 // The keep margin, or none.
 pub fn set_keep(decoder: Decoder, keeps: bool, margin: f32) -> Called
     ensures { λ r. ⌜ KeepIs decoder keeps margin r ⌝ }
 {
-    if margin_wrong(keeps, margin) {
+    if checks::margin_wrong(keeps, margin) {
         return Called::Refused(
             decoder,
             Refusal {
@@ -729,14 +618,14 @@ pub fn alternatives(
     max: usize,
     keys: &mut [u64],
     places: &mut [u32],
-    order: &mut [u32],
+    own: &mut [u32],
     words: &mut [i32],
     frames: &mut [u32],
     segments: &mut [u32],
     ends: &mut [u32],
     costs: &mut [f32],
 ) -> Listed
-    requires { ⌜ AlternativesLeft (now tokens) (now sums) (now records) (now labels) (now finals) (length (now keys) ∷ length (now places) ∷ length (now order) ∷ []) decoder ⌝ }
+    requires { ⌜ AlternativesLeft (now tokens) (now sums) (now records) (now labels) (now finals) (length (now keys) ∷ length (now places) ∷ length (now own) ∷ []) decoder ⌝ }
     ensures { λ r. ⌜ AlternativesIs (now (tokens .entry)) (now (sums .entry)) (now (records .entry)) (now (labels .entry)) (now (finals .entry)) decoder «use_final» max (outputs (now (words .entry)) (now (frames .entry)) (now (segments .entry)) (now (ends .entry)) (now (costs .entry))) (outputs (now (words .exit)) (now (frames .exit)) (now (segments .exit)) (now (ends .exit)) (now (costs .exit))) r ⌝ }
 {
     let finished = 1 - decoder.side;
@@ -754,11 +643,85 @@ pub fn alternatives(
         max,
         keys,
         places,
-        order,
+        own,
         words,
         frames,
         segments,
         ends,
+        costs,
+    )
+}
+
+// The reading list, the first `max` of it traced, into lent words, frames, segments, five numbers and four costs for each reading. The lists below joins and the kept readings are lent too.
+pub fn reading_list(
+    tokens: &[u32],
+    sums: &[f32],
+    records: &[u32],
+    labels: &[i32],
+    gaps: &[f32],
+    finals: &[f32],
+    decoder: Decoder,
+    use_final: bool,
+    listed: usize,
+    max: usize,
+    keys: &mut [u64],
+    places: &mut [u32],
+    own: &mut [u32],
+    heads: &mut [u32],
+    list: &mut [u32],
+    lists: &mut [u32],
+    route: &mut [u32],
+    entry_hashes: &mut [u64],
+    entry_nexts: &mut [u32],
+    entry_sums: &mut [f32],
+    kept_hashes: &mut [u64],
+    kept_links: &mut [u32],
+    kept_sums: &mut [f32],
+    order: &mut [u32],
+    words: &mut [i32],
+    frames: &mut [u32],
+    segments: &mut [u32],
+    numbers: &mut [u64],
+    costs: &mut [f32],
+) -> ReadingList
+    requires { ⌜ ReadingsLeft (now tokens) (now sums) (now records) (now labels) (now gaps) (now finals) (length (now keys) ∷ length (now places) ∷ length (now own) ∷ length (now heads) ∷ length (now list) ∷ []) (perRecordOf (now lists) (now route)) decoder ⌝ }
+    ensures { λ r. ⌜ ReadingsIs (now (tokens .entry)) (now (sums .entry)) (now (records .entry)) (now (labels .entry)) (now (gaps .entry)) (now (finals .entry)) decoder «use_final» listed max (entryPlaces (length (now («entry_hashes» .entry))) (length (now («entry_nexts» .entry))) (length (now («entry_sums» .entry)))) (keptPlaces (length (now («kept_hashes» .entry))) (length (now («kept_links» .entry))) (length (now («kept_sums» .entry))) (length (now (keys .entry))) (length (now (order .entry))) (length (now (list .entry)) - decoder .graph .states)) (listOutputs (now (words .entry)) (now (frames .entry)) (now (segments .entry)) (now (numbers .entry)) (now (costs .entry))) (listOutputs (now (words .exit)) (now (frames .exit)) (now (segments .exit)) (now (numbers .exit)) (now (costs .exit))) r ⌝ }
+{
+    let side = 1 - decoder.side;
+    reading_list::readings(
+        tokens,
+        sums,
+        finals,
+        records,
+        labels,
+        gaps,
+        decoder.graph.states,
+        side,
+        decoder.used,
+        decoder.frames,
+        decoder.keeps,
+        decoder.margin,
+        use_final,
+        listed,
+        max,
+        keys,
+        places,
+        own,
+        heads,
+        list,
+        lists,
+        route,
+        entry_hashes,
+        entry_nexts,
+        entry_sums,
+        kept_hashes,
+        kept_links,
+        kept_sums,
+        order,
+        words,
+        frames,
+        segments,
+        numbers,
         costs,
     )
 }

@@ -21,23 +21,23 @@ use Rattle.decoder.specs.Fit.{FitIs}
 use Rattle.decoder.specs.Held.{Held, HeldBy, HeldFitted, call-held, fit-held, held-fewer}
 
 -- with a queue and a scratch that are as long
-held-as-long : (T : Tables) (m : Lent) (finals : List Float) (eps : List ℕ) (places places' k k' : ℕ) (d : Decoder) → places' ≡ places → k' ≡ k → Held T m finals eps places (k ∷ []) d → Held T m finals eps places' (k' ∷ []) d
-held-as-long T m finals eps places places' k k' d p q H = subst (λ (n : ℕ). Held T m finals eps n (k' ∷ []) d) (sym p) (subst (λ (n : ℕ). Held T m finals eps places (n ∷ []) d) (sym q) H)
+held-as-long : (T : Tables) (m : Lent) (finals : List Float) (eps : List ℕ) (places places' k k' : ℕ) (d : Decoder) → places' ≡ places → k' ≡ k → Held T m finals eps places (k ∷ []) [] d → Held T m finals eps places' (k' ∷ []) [] d
+held-as-long T m finals eps places places' k k' d p q H = subst (λ (n : ℕ). Held T m finals eps n (k' ∷ []) [] d) (sym p) (subst (λ (n : ℕ). Held T m finals eps places (n ∷ []) [] d) (sym q) H)
 
--- after a fitting: of the scratch slices, frames need the first
-pub fit-done : (g : Graph) (T : Tables) (m m' : Lent) (k : ℕ) (more : List ℕ) (places places' : ℕ) (eps eps' : List ℕ) (c : Config) (f : Fitted) (d : Decoder) → FitIs g T m m' (k ∷ more) places eps eps' c f → f ≡ FitDone d → places' ≡ places
-    → Held T m' (g .finals) eps' places' (k ∷ []) d
-fit-done g T m m' k more places places' eps eps' c f d F e p =
-    held-as-long T m' (g .finals) eps' places places' k k d p refl (held-fewer m' (k ∷ []) first (subst (HeldFitted T m' (g .finals) eps' places (k ∷ more)) e (fit-held g T m m' (k ∷ more) places eps eps' c f F)))
+-- after a fitting: of all the slices, frames need the first scratch
+pub fit-done : (g : Graph) (T : Tables) (m m' : Lent) (k : ℕ) (more perRecord : List ℕ) (places places' : ℕ) (eps eps' : List ℕ) (c : Config) (f : Fitted) (d : Decoder) → FitIs g T m m' (k ∷ more) perRecord places eps eps' c f → f ≡ FitDone d → places' ≡ places
+    → Held T m' (g .finals) eps' places' (k ∷ []) [] d
+fit-done g T m m' k more perRecord places places' eps eps' c f d F e p =
+    held-as-long T m' (g .finals) eps' places places' k k d p refl (held-fewer m' (k ∷ []) [] first (λ j i. elim i [ ]) (subst (HeldFitted T m' (g .finals) eps' places (k ∷ more) perRecord) e (fit-held g T m m' (k ∷ more) perRecord places eps eps' c f F)))
   where
     first : (j : ℕ) → j ∈ (k ∷ []) → j ∈ (k ∷ more)
     first j (here q) = here q
 
 -- after a frame
-pub frame-done : (T : Tables) (m m' : Lent) (finals : List Float) (eps : List ℕ) (places places' k k' : ℕ) (ls : List Float) (x d : Decoder) (r : Called) → Held T m finals eps places (k ∷ []) x → FrameIs T m m' eps places ls x r → r ≡ Done d → places' ≡ places → k' ≡ k
-    → Held T m' finals eps places' (k' ∷ []) d
+pub frame-done : (T : Tables) (m m' : Lent) (finals : List Float) (eps : List ℕ) (places places' k k' : ℕ) (ls : List Float) (x d : Decoder) (r : Called) → Held T m finals eps places (k ∷ []) [] x → FrameIs T m m' eps places ls x r → r ≡ Done d → places' ≡ places → k' ≡ k
+    → Held T m' finals eps places' (k' ∷ []) [] d
 frame-done T m m' finals eps places places' k k' ls x d r H F e p q =
-    held-as-long T m' finals eps places places' k k' d p q (subst (HeldBy T m' finals eps places (k ∷ [])) e (call-held T finals eps places (k ∷ []) m m' (frameCall ls) x r F H))
+    held-as-long T m' finals eps places places' k k' d p q (subst (HeldBy T m' finals eps places (k ∷ []) []) e (call-held T finals eps places (k ∷ []) [] m m' (frameCall ls) x r F H))
 
 -- slices that are as long as others
 pub record AsLong (tk tk' : List ℕ) (sm sm' : List Float) (rs rs' : List ℕ) (ls ls' : List ℤ) (gs gs' : List Float) (qs qs' : List ℕ) (sc sc' : List Float) : Type 0 where

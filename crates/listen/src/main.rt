@@ -117,7 +117,11 @@ fn listen(
     let mut scratch = [0.0f32; 4];
     let keys = [0u64; 4];
     let places = [0u32; 4];
-    let order = [0u32; 4];
+    let own = [0u32; 4];
+    let heads = [0u32; 4];
+    let list = [0u32; 4];
+    let lists = [0u32; 64];
+    let route = [0u32; 32];
     let mut eps = [0u8; 4];
     match decoder::fit(
         &mut tokens,
@@ -129,7 +133,11 @@ fn listen(
         &scratch,
         &keys,
         &places,
-        &order,
+        &own,
+        &heads,
+        &list,
+        &lists,
+        &route,
         &mut eps,
         offsets,
         ilabels,
@@ -187,7 +195,7 @@ fn hear_frames(
     tid2phone: &[i32],
     fitted: Decoder,
 )
-    requires { ⌜ Held (graphTables (now offsets) (now ilabels) (now olabels) (now weights) (now nextstates) (now tid2pdf) (now tid2phone)) (lent (now tokens) (now sums) (now records) (now labels) (now gaps)) (now finals) (now eps) (length (now queue)) (length (now scratch) ∷ []) fitted ⌝ }
+    requires { ⌜ Held (graphTables (now offsets) (now ilabels) (now olabels) (now weights) (now nextstates) (now tid2pdf) (now tid2phone)) (lent (now tokens) (now sums) (now records) (now labels) (now gaps)) (now finals) (now eps) (length (now queue)) (length (now scratch) ∷ []) [] fitted ⌝ }
 {
     let mut d = fitted;
     for i in 0..FRAMES {

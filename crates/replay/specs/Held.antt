@@ -1,11 +1,13 @@
 -- The decoder that the program holds between calls. Assumes nothing.
 use mathlib.Core.Path.{_≡_, subst, sym}
-use Prim.Native.Nat.{ℕ}
+use Prim.Native.Nat.{ℕ, _/_}
+use native.Mathlib.Omega.{arith}
 use mathlib.Core.Bool.{Bool}
-use mathlib.Core.List.{List, [], _∷_, List·Memᴰ·tail as there}
+use mathlib.Core.List.{List, [], _∷_, List·Memᴰ, List·Memᴰ·head as here, List·Memᴰ·tail as there}
 use lib.IntN.{ℤ}
 use lib.Ieee.{Float}
-use lib.ListN.{length}
+use lib.ListN.{length, take}
+use lib.Seq.{length-take-le}
 use Rattle.model.specs.Graph.{Graph}
 use Rattle.model.specs.Calls.{Call, keepCall}
 use Rattle.stores.specs.Rep.{Lent, lent}
@@ -15,14 +17,26 @@ use Rattle.decoder.specs.declared.Decoder.{Decoder}
 use Rattle.decoder.specs.declared.Called.{Called}
 use Rattle.decoder.specs.declared.Fitted.{Fitted}
 use Rattle.decoder.specs.Reads.{asked, KeepIs, AlternativesLeft}
-use Rattle.decoder.specs.Fit.{FitIs}
+use Rattle.decoder.specs.Fit.{scratchOf, perRecordOf, FitIs}
 use Rattle.decoder.specs.Held.{Held, HeldBy, HeldFitted, Promised, call-held, fit-held, alternatives-left}
 use Rattle.replay.specs.declared.Answered.{Answered}
 
+-- the lengths of the slices that the program lends to readings: keys, places, own, heads and list
+abbrev pub readingsHere : List ℕ
+readingsHere = 8192 ∷ 4096 ∷ 4096 ∷ 4096 ∷ 12288 ∷ []
+
+-- and of all that have a place for each state
+abbrev pub scratchHere : ℕ → List ℕ
+scratchHere k = k ∷ readingsHere
+
+-- the places per record of its lists and its route
+abbrev pub recordsHere : List ℕ
+recordsHere = 8192 ∷ 8192 ∷ []
+
 -- after an answer the decoder and its stores are as a call leaves them
-abbrev pub AnsweredLeft : (T : Tables) (m : Lent) (finals : List Float) (eps : List ℕ) (places : ℕ) (scratch : List ℕ) → Answered → Type 0
-AnsweredLeft T m finals eps places scratch (Answered.Next d) = Held T m finals eps places scratch d
-AnsweredLeft T m finals eps places scratch Answered.Over = Unit {0}
+abbrev pub AnsweredLeft : (T : Tables) (m : Lent) (finals : List Float) (eps : List ℕ) (places : ℕ) (scratch perRecord : List ℕ) → Answered → Type 0
+AnsweredLeft T m finals eps places scratch perRecord (Answered.Next d) = Held T m finals eps places scratch perRecord d
+AnsweredLeft T m finals eps places scratch perRecord Answered.Over = Unit {0}
 
 -- the decoder goes on as it is, if at all
 abbrev pub NextIs : Decoder → Answered → Type 0
@@ -41,42 +55,62 @@ GoesFitted (Fitted.Refused d f) a = NextIs d a
 
 -- what a call on stores and what one on the decoder alone keeps
 abbrev pub GoesOn : (T : Tables) (m m' : Lent) (eps : List ℕ) (places : ℕ) → Decoder → Answered → Type 0
-GoesOn T m m' eps places d a = (finals : List Float) (scratch : List ℕ) → Held T m finals eps places scratch d → AnsweredLeft T m' finals eps places scratch a
+GoesOn T m m' eps places d a = (finals : List Float) (scratch perRecord : List ℕ) → Held T m finals eps places scratch perRecord d → AnsweredLeft T m' finals eps places scratch perRecord a
 
 abbrev pub GoesOnAll : Decoder → Answered → Type 0
 GoesOnAll d a = (T : Tables) (m : Lent) (eps : List ℕ) (places : ℕ) → GoesOn T m m eps places d a
 
-module _ (T : Tables) (m : Lent) (finals : List Float) (eps : List ℕ) (places : ℕ) (scratch : List ℕ) where
-  pub next-left : (d : Decoder) (a : Answered) → NextIs d a → Held T m finals eps places scratch d → AnsweredLeft T m finals eps places scratch a
-  next-left d (Answered.Next x) e H = subst (Held T m finals eps places scratch) (sym e) H
+module _ (T : Tables) (m : Lent) (finals : List Float) (eps : List ℕ) (places : ℕ) (scratch perRecord : List ℕ) where
+  pub next-left : (d : Decoder) (a : Answered) → NextIs d a → Held T m finals eps places scratch perRecord d → AnsweredLeft T m finals eps places scratch perRecord a
+  next-left d (Answered.Next x) e H = subst (Held T m finals eps places scratch perRecord) (sym e) H
   next-left d Answered.Over e H = tt
 
-  goes-left : (r : Called) (a : Answered) → Goes r a → HeldBy T m finals eps places scratch r → AnsweredLeft T m finals eps places scratch a
+  goes-left : (r : Called) (a : Answered) → Goes r a → HeldBy T m finals eps places scratch perRecord r → AnsweredLeft T m finals eps places scratch perRecord a
   goes-left (Called.Done d) a e H = next-left d a e H
   goes-left (Called.Refused d f) a e H = next-left d a e H
 
-  fitted-left : (f : Fitted) (a : Answered) → GoesFitted f a → HeldFitted T m finals eps places scratch f → AnsweredLeft T m finals eps places scratch a
-  fitted-left (Fitted.Unfit x) a e H = subst (AnsweredLeft T m finals eps places scratch) (sym e) tt
+  fitted-left : (f : Fitted) (a : Answered) → GoesFitted f a → HeldFitted T m finals eps places scratch perRecord f → AnsweredLeft T m finals eps places scratch perRecord a
+  fitted-left (Fitted.Unfit x) a e H = subst (AnsweredLeft T m finals eps places scratch perRecord) (sym e) tt
   fitted-left (Fitted.Done d) a e H = next-left d a e H
   fitted-left (Fitted.Refused d x) a e H = next-left d a e H
 
 pub called-left : (T : Tables) (m m' : Lent) (eps : List ℕ) (places : ℕ) (k : Call) (d : Decoder) (r : Called) (a : Answered) → Promised T m m' eps places k d r → Goes r a → GoesOn T m m' eps places d a
-called-left T m m' eps places k d r a P e finals scratch H = goes-left T m' finals eps places scratch r a e (call-held T finals eps places scratch m m' k d r P H)
+called-left T m m' eps places k d r a P e finals scratch perRecord H = goes-left T m' finals eps places scratch perRecord r a e (call-held T finals eps places scratch perRecord m m' k d r P H)
 
 pub kept-left : (d : Decoder) (keeps : Bool) (margin : Float) (r : Called) (a : Answered) → KeepIs d keeps margin r → Goes r a → GoesOnAll d a
 kept-left d keeps margin r a K e T m eps places = called-left T m m eps places (keepCall (asked keeps margin)) d r a (λ g c l fs st R. K g c l T m eps places fs st R) e
 
--- an answer that goes on, with a queue and scratch slices as long
-pub answered-next : (T : Tables) (m : Lent) (finals : List Float) (eps : List ℕ) (n n' : ℕ) (k k' : List ℕ) (a : Answered) (d : Decoder) → AnsweredLeft T m finals eps n k a → a ≡ Answered.Next d → n' ≡ n → k' ≡ k → Held T m finals eps n' k' d
+-- an answer that goes on, with a queue and a scratch as long
+pub answered-next : (T : Tables) (m : Lent) (finals : List Float) (eps : List ℕ) (n n' k k' : ℕ) (a : Answered) (d : Decoder) → AnsweredLeft T m finals eps n (scratchHere k) recordsHere a → a ≡ Answered.Next d → n' ≡ n → k' ≡ k
+    → Held T m finals eps n' (scratchHere k') recordsHere d
 answered-next T m finals eps n n' k k' a d H e p q =
-    subst (λ (x : List ℕ). Held T m finals eps n' x d) (sym q) (subst (λ (x : ℕ). Held T m finals eps x k d) (sym p) (subst (AnsweredLeft T m finals eps n k) e H))
+    subst (λ (x : ℕ). Held T m finals eps n' (scratchHere x) recordsHere d) (sym q)
+    (subst (λ (x : ℕ). Held T m finals eps x (scratchHere k) recordsHere d) (sym p) (subst (AnsweredLeft T m finals eps n (scratchHere k) recordsHere) e H))
 
-pub fitted-next : (g : Graph) (T : Tables) (m m' : Lent) (k : List ℕ) (n n' : ℕ) (eps eps' : List ℕ) (c : Config) (f : Fitted) (a : Answered) (d : Decoder) → FitIs g T m m' k n eps eps' c f → GoesFitted f a → a ≡ Answered.Next d → n' ≡ n → Held T m' (g .finals) eps' n' k d
-fitted-next g T m m' k n n' eps eps' c f a d F o e p =
-    subst (λ (x : ℕ). Held T m' (g .finals) eps' x k d) (sym p) (subst (AnsweredLeft T m' (g .finals) eps' n k) e (fitted-left T m' (g .finals) eps' n k f a o (fit-held g T m m' k n eps eps' c f F)))
+-- the lengths of what is lent to a fit
+lent-scratch : (sc : List Float) (ks ns : List ℕ) → 8192 ≡ length ks → 16384 ≡ length ns → scratchOf sc ks (take 4096 ns) (take 4096 ns) (take 4096 ns) (take 12288 ns) ≡ scratchHere (length sc)
+lent-scratch sc ks ns p q =
+    let a = length-take-le 4096 ns (omega arith) in
+    let b = length-take-le 12288 ns (omega arith) in
+    λ i. length sc ∷ sym p i ∷ a i ∷ a i ∷ a i ∷ b i ∷ []
+
+lent-records : (ns : List ℕ) → 16384 ≡ length ns → perRecordOf ns (take 8192 ns) ≡ recordsHere
+lent-records ns q =
+    let a = length-take-le 8192 ns (omega arith) in
+    let h : length ns / 2 ≡ 8192 = omega arith in
+    λ i. h i ∷ a i ∷ []
+
+pub fitted-next : (g : Graph) (T : Tables) (m m' : Lent) (sc : List Float) (ks ns : List ℕ) (n n' : ℕ) (eps eps' : List ℕ) (c : Config) (f : Fitted) (a : Answered) (d : Decoder) → FitIs g T m m' (scratchOf sc ks (take 4096 ns) (take 4096 ns) (take 4096 ns) (take 12288 ns)) (perRecordOf ns (take 8192 ns)) n eps eps' c f
+    → GoesFitted f a → a ≡ Answered.Next d → n' ≡ n → 8192 ≡ length ks → 16384 ≡ length ns → Held T m' (g .finals) eps' n' (scratchHere (length sc)) recordsHere d
+fitted-next g T m m' sc ks ns n n' eps eps' c f a d F o e p q s =
+    let k = scratchOf sc ks (take 4096 ns) (take 4096 ns) (take 4096 ns) (take 12288 ns) in
+    let j = perRecordOf ns (take 8192 ns) in
+    let H = subst (AnsweredLeft T m' (g .finals) eps' n k j) e (fitted-left T m' (g .finals) eps' n k j f a o (fit-held g T m m' k j n eps eps' c f F)) in
+    subst (λ (x : ℕ). Held T m' (g .finals) eps' x (scratchHere (length sc)) recordsHere d) (sym p)
+    (subst (λ (x : List ℕ). Held T m' (g .finals) eps' n (scratchHere (length sc)) x d) (lent-records ns s) (subst (λ (x : List ℕ). Held T m' (g .finals) eps' n x j d) (lent-scratch sc ks ns q s) H))
 
 -- slices that are as long as others
-pub record AsLong (tk tk' : List ℕ) (sm sm' : List Float) (rs rs' : List ℕ) (ls ls' : List ℤ) (gs gs' : List Float) (qs qs' : List ℕ) (sc sc' : List Float) (ks ks' ps ps' os os' : List ℕ) : Type 0 where
+pub record AsLong (tk tk' : List ℕ) (sm sm' : List Float) (rs rs' : List ℕ) (ls ls' : List ℤ) (gs gs' : List Float) (qs qs' : List ℕ) (sc sc' : List Float) : Type 0 where
   pub tokens : length tk' ≡ length tk
   pub sums : length sm' ≡ length sm
   pub records : length rs' ≡ length rs
@@ -84,13 +118,18 @@ pub record AsLong (tk tk' : List ℕ) (sm sm' : List Float) (rs rs' : List ℕ) 
   pub gaps : length gs' ≡ length gs
   pub queue : length qs' ≡ length qs
   pub scratch : length sc' ≡ length sc
-  pub keys : length ks' ≡ length ks
-  pub places : length ps' ≡ length ps
-  pub order : length os' ≡ length os
 
-pub four-as-long : {a a' b b' e e' f f' : ℕ} → a' ≡ a → b' ≡ b → e' ≡ e → f' ≡ f → _≡_ {A = List ℕ} (a' ∷ b' ∷ e' ∷ f' ∷ []) (a ∷ b ∷ e ∷ f ∷ [])
-four-as-long p q s t = λ i. p i ∷ q i ∷ s i ∷ t i ∷ []
+-- alternatives work in keys, places and own alone
+pub alternatives-next : {T : Tables} {tk : List ℕ} {sm : List Float} {rs : List ℕ} {ls : List ℤ} {gs finals : List Float} {eps : List ℕ} {places : ℕ} {d : Decoder} (k : ℕ) → Held T (lent tk sm rs ls gs) finals eps places (scratchHere k) recordsHere d
+    → AlternativesLeft tk sm rs ls finals (8192 ∷ 4096 ∷ 4096 ∷ []) d
+alternatives-next k H = alternatives-left H (8192 ∷ 4096 ∷ 4096 ∷ []) among
+  where
+    among : (j : ℕ) → List·Memᴰ j (8192 ∷ 4096 ∷ 4096 ∷ []) → List·Memᴰ j (scratchHere k)
+    among j (here e) = there (here e)
+    among j (there (here e)) = there (there (here e))
+    among j (there (there (here e))) = there (there (there (here e)))
 
--- of the scratch slices, alternatives use all but the first
-pub alternatives-next : {T : Tables} {tk : List ℕ} {sm : List Float} {rs : List ℕ} {ls : List ℤ} {gs finals : List Float} {eps : List ℕ} {places : ℕ} {d : Decoder} (k : ℕ) (scratch : List ℕ) → Held T (lent tk sm rs ls gs) finals eps places (k ∷ scratch) d → AlternativesLeft tk sm rs ls finals scratch d
-alternatives-next k scratch H = alternatives-left H scratch (λ j i. there i)
+-- in slices of as many places
+pub alternatives-lent : {tk : List ℕ} {sm : List Float} {rs : List ℕ} {ls : List ℤ} {finals : List Float} {d : Decoder} (keys places own : ℕ) → 8192 ≡ keys → 4096 ≡ places → 4096 ≡ own → AlternativesLeft tk sm rs ls finals (8192 ∷ 4096 ∷ 4096 ∷ []) d
+    → AlternativesLeft tk sm rs ls finals (keys ∷ places ∷ own ∷ []) d
+alternatives-lent {tk} {sm} {rs} {ls} {finals} {d} keys places own p q s = subst (λ (x : List ℕ). AlternativesLeft tk sm rs ls finals x d) (λ i. p i ∷ q i ∷ s i ∷ [])

@@ -1,3 +1,4 @@
 -- What the functions of the program ask of one another.
 pub mod Places
 pub mod Held
+pub mod Readings

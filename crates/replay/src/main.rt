@@ -1,10 +1,10 @@
-// Reads a script of decoder calls from standard input and writes their answers, both in the binary form of oracle/FORMAT.md. Readings are not built yet and
-// get the answer of a faulty script.
+// Reads a script of decoder calls from standard input and writes their answers, both in the binary form of oracle/FORMAT.md.
 //
-// The program has places for a script of 524,287 words, graphs of 4,096 states, 16,384 arcs and 4,096 transition ids, 4,096 log-likelihoods a frame, 8,192 records,
+// The program has places for a script of 327,679 words, graphs of 4,096 states, 16,384 arcs and 4,096 transition ids, 4,096 log-likelihoods a frame, 8,192 records,
 // and a queue of 16,384. A store is lent at the length that the script asks for, or at these where they are less. A best path has at most one word and one segment
-// for each record, so it always fits. Alternatives have places for 16,384 words and as many segments. A call that these sizes could answer otherwise gets the
-// answer of a faulty script, and the program ends.
+// for each record, so it always fits. Alternatives have places for 16,384 words and as many segments; a reading list for 65,536 entries below joins, 8,192 kept
+// readings, and 4,096 readings with 65,536 words, of which those that are traced have 16,384 words and as many segments. A call that these sizes could answer
+// otherwise gets the answer of a faulty script, and the program ends.
 use cutoff::Config;
 use decoder::Called;
 use decoder::Decoder;
@@ -14,6 +14,7 @@ use fst::Place;
 use fst::Refusal;
 use libc::STDIN_FILENO;
 use libc::STDOUT_FILENO;
+use reading_list::ReadingList;
 use readings::Listed;
 use script::NextRecord;
 use script::Record;
@@ -26,11 +27,12 @@ ghost use Rattle.stores.specs.Rep.{lent};
 ghost use Rattle.nonemitting.specs.Expand.{graphTables};
 ghost use Rattle.decoder.specs.Represents.{Left, FrameLeft};
 ghost use Rattle.decoder.specs.Reads.{FinalsLeft, RelativeLeft, AlternativesLeft};
-ghost use Rattle.decoder.specs.Fit.{scratchOf};
+ghost use Rattle.decoder.specs.Listed.{ReadingsLeft};
 ghost use Rattle.decoder.specs.Held.{Held};
 ghost use Rattle.replay.specs.declared.Answered.the-variants.{Next};
 ghost use Rattle.replay.specs.Places.{Inside, RecordFrom, CanFill, Behind, TurnAt, TurnsTo, EndsWithin};
-ghost use Rattle.replay.specs.Held.{AnsweredLeft, NextIs, Goes, GoesFitted, GoesOn, GoesOnAll};
+ghost use Rattle.replay.specs.Held.{readingsHere, scratchHere, recordsHere, AnsweredLeft, NextIs, Goes, GoesFitted, GoesOn, GoesOnAll};
+ghost use Rattle.replay.specs.Readings.{LengthsWithin, OutputHere};
 
 // The kinds of the calls.
 const GRAPH: u32 = 1;
@@ -47,6 +49,8 @@ const BEST: u32 = 6;
 
 const ALTERNATIVES: u32 = 7;
 
+const READINGS: u32 = 8;
+
 const RELATIVE: u32 = 9;
 
 const ACTIVE: u32 = 10;
@@ -59,6 +63,8 @@ const TOO_SHORT: u32 = 11;
 const NO_RECORD: u32 = 13;
 
 const NO_PLACE: u32 = 14;
+
+const NO_ENTRY: u32 = 15;
 
 // A store of more records is refused.
 const MOST_RECORDS: usize = 1_048_576;
@@ -92,7 +98,7 @@ enum Answered {
 fn main() {
     let mut calls = script_places();
     let n = read_script(&mut calls);
-    if n < 524288 {
+    if n < 327680 {
         replay(&calls[..n]);
     } else {
         say_fault(0);
@@ -601,6 +607,8 @@ struct Loan {
     queue: usize,
     all_records: bool,
     all_queue: bool,
+    below: usize,
+    kept: usize,
 }
 
 fn loan_of(calls: &[u32], r: Record) -> Loan
@@ -616,6 +624,8 @@ fn loan_of(calls: &[u32], r: Record) -> Loan
         queue: least(queue, 16384),
         all_records: records <= 8192,
         all_queue: queue <= 16384,
+        below: asked(calls, r, 7, NO_LIMIT),
+        kept: asked(calls, r, 8, NO_LIMIT),
     }
 }
 
@@ -700,8 +710,8 @@ fn fit_apart(
     let mut queue = queue_places();
     let scratch = cost_places();
     let keys = key_places();
-    let places = state_places();
-    let order = state_places();
+    let all = list_places();
+    let numbers: &[u32] = &all;
     let mut eps = eps_places();
     let loan = loan_of(calls, r);
     let p = loan.places;
@@ -715,9 +725,13 @@ fn fit_apart(
         &mut gaps[..2 * n],
         &mut queue[..q],
         &scratch[..p],
-        &keys[..p],
-        &places[..p],
-        &order[..p],
+        &keys,
+        &numbers[..4096],
+        &numbers[..4096],
+        &numbers[..4096],
+        &numbers[..12288],
+        numbers,
+        &numbers[..8192],
         &mut eps[..p],
         offsets,
         ilabels,
@@ -768,9 +782,6 @@ fn with_stores(
     let mut gaps = gap_places();
     let mut queue = queue_places();
     let mut scratch = cost_places();
-    let mut keys = key_places();
-    let mut places = state_places();
-    let mut order = state_places();
     let mut eps = eps_places();
     let loan = loan_of(calls, r);
     let p = loan.places;
@@ -787,9 +798,6 @@ fn with_stores(
         &mut gaps[..2 * n],
         &mut queue[..q],
         &mut scratch[..p],
-        &mut keys[..p],
-        &mut places[..p],
-        &mut order[..p],
         &mut eps[..p],
         offsets,
         ilabels,
@@ -815,9 +823,6 @@ fn fit(
     gaps: &mut [f32],
     queue: &mut [u32],
     scratch: &mut [f32],
-    keys: &mut [u64],
-    places: &mut [u32],
-    order: &mut [u32],
     eps: &mut [u8],
     offsets: &[u32],
     ilabels: &[i32],
@@ -833,6 +838,9 @@ fn fit(
     requires { ⌜ Inside (now calls) r ⌝ }
     ensures { λ t. ⌜ Behind (now (calls .entry)) (r .start + r .count) t ⌝ }
 {
+    let keys = key_places();
+    let all = list_places();
+    let numbers: &[u32] = &all;
     let fitted = decoder::fit(
         tokens,
         sums,
@@ -841,9 +849,13 @@ fn fit(
         gaps,
         queue,
         scratch,
-        keys,
-        places,
-        order,
+        &keys,
+        &numbers[..4096],
+        &numbers[..4096],
+        &numbers[..4096],
+        &numbers[..12288],
+        numbers,
+        &numbers[..8192],
         eps,
         offsets,
         ilabels,
@@ -869,9 +881,6 @@ fn fit(
             gaps,
             queue,
             scratch,
-            keys,
-            places,
-            order,
             eps,
             offsets,
             ilabels,
@@ -934,9 +943,6 @@ fn on_decoder(
     gaps: &mut [f32],
     queue: &mut [u32],
     scratch: &mut [f32],
-    keys: &mut [u64],
-    places: &mut [u32],
-    order: &mut [u32],
     eps: &[u8],
     offsets: &[u32],
     ilabels: &[i32],
@@ -950,7 +956,7 @@ fn on_decoder(
     pdfs: u32,
     decoder: Decoder,
 ) -> Stop
-    requires { ⌜ Held (graphTables (now offsets) (now ilabels) (now olabels) (now weights) (now nextstates) (now tid2pdf) (now tid2phone)) (lent (now tokens) (now sums) (now records) (now labels) (now gaps)) (now finals) (now eps) (length (now queue)) (scratchOf (now scratch) (now keys) (now places) (now order)) decoder ⌝ }
+    requires { ⌜ Held (graphTables (now offsets) (now ilabels) (now olabels) (now weights) (now nextstates) (now tid2pdf) (now tid2phone)) (lent (now tokens) (now sums) (now records) (now labels) (now gaps)) (now finals) (now eps) (length (now queue)) (scratchHere (length (now scratch))) recordsHere decoder ⌝ }
     ensures { λ t. ⌜ Behind (now (calls .entry)) from t ⌝ }
 {
     let mut d = decoder;
@@ -987,9 +993,6 @@ fn on_decoder(
                             gaps,
                             queue,
                             scratch,
-                            keys,
-                            places,
-                            order,
                             eps,
                             offsets,
                             ilabels,
@@ -1027,9 +1030,6 @@ fn answer(
     gaps: &mut [f32],
     queue: &mut [u32],
     scratch: &mut [f32],
-    keys: &mut [u64],
-    places: &mut [u32],
-    order: &mut [u32],
     eps: &[u8],
     offsets: &[u32],
     ilabels: &[i32],
@@ -1042,8 +1042,8 @@ fn answer(
     d: Decoder,
 ) -> Answered
     requires { ⌜ Inside (now calls) r ⌝ }
-    requires { ⌜ Held (graphTables (now offsets) (now ilabels) (now olabels) (now weights) (now nextstates) (now tid2pdf) (now tid2phone)) (lent (now tokens) (now sums) (now records) (now labels) (now gaps)) (now finals) (now eps) (length (now queue)) (scratchOf (now scratch) (now keys) (now places) (now order)) d ⌝ }
-    ensures { λ t. ⌜ AnsweredLeft (graphTables (now (offsets .entry)) (now (ilabels .entry)) (now (olabels .entry)) (now (weights .entry)) (now (nextstates .entry)) (now (tid2pdf .entry)) (now (tid2phone .entry))) (lent (now (tokens .exit)) (now (sums .exit)) (now (records .exit)) (now (labels .exit)) (now (gaps .exit))) (now (finals .entry)) (now (eps .entry)) (length (now (queue .entry))) (scratchOf (now (scratch .entry)) (now (keys .entry)) (now (places .entry)) (now (order .entry))) t ⌝ }
+    requires { ⌜ Held (graphTables (now offsets) (now ilabels) (now olabels) (now weights) (now nextstates) (now tid2pdf) (now tid2phone)) (lent (now tokens) (now sums) (now records) (now labels) (now gaps)) (now finals) (now eps) (length (now queue)) (scratchHere (length (now scratch))) recordsHere d ⌝ }
+    ensures { λ t. ⌜ AnsweredLeft (graphTables (now (offsets .entry)) (now (ilabels .entry)) (now (olabels .entry)) (now (weights .entry)) (now (nextstates .entry)) (now (tid2pdf .entry)) (now (tid2phone .entry))) (lent (now (tokens .exit)) (now (sums .exit)) (now (records .exit)) (now (labels .exit)) (now (gaps .exit))) (now (finals .entry)) (now (eps .entry)) (length (now (queue .entry))) (scratchHere (length (now (scratch .entry)))) recordsHere t ⌝ }
 {
     if r.kind == START {
         return start_again(
@@ -1093,17 +1093,19 @@ fn answer(
         return keep(calls, r, loan, d);
     }
     if r.kind == ALTERNATIVES {
-        return alternatives(
+        return alternatives(calls, r, tokens, sums, records, labels, finals, d);
+    }
+    if r.kind == READINGS {
+        return readings(
             calls,
             r,
+            loan,
             tokens,
             sums,
             records,
             labels,
+            gaps,
             finals,
-            keys,
-            places,
-            order,
             d,
         );
     }
@@ -1391,13 +1393,10 @@ fn alternatives(
     records: &[u32],
     labels: &[i32],
     finals: &[f32],
-    keys: &mut [u64],
-    places: &mut [u32],
-    order: &mut [u32],
     d: Decoder,
 ) -> Answered
     requires { ⌜ Inside (now calls) r ⌝ }
-    requires { ⌜ AlternativesLeft (now tokens) (now sums) (now records) (now labels) (now finals) (length (now keys) ∷ length (now places) ∷ length (now order) ∷ []) d ⌝ }
+    requires { ⌜ AlternativesLeft (now tokens) (now sums) (now records) (now labels) (now finals) (8192 ∷ 4096 ∷ 4096 ∷ []) d ⌝ }
     ensures { λ t. ⌜ NextIs d t ⌝ }
 {
     if !alternatives_shaped(calls, r) {
@@ -1421,9 +1420,6 @@ fn alternatives(
         records,
         labels,
         finals,
-        keys,
-        places,
-        order,
         d,
         &mut words[..n],
         &mut frames[..f],
@@ -1441,9 +1437,6 @@ fn answer_alternatives(
     records: &[u32],
     labels: &[i32],
     finals: &[f32],
-    keys: &mut [u64],
-    places: &mut [u32],
-    order: &mut [u32],
     d: Decoder,
     words: &mut [i32],
     frames: &mut [u32],
@@ -1452,11 +1445,14 @@ fn answer_alternatives(
     costs: &mut [f32],
 ) -> Answered
     requires { ⌜ Inside (now calls) r ⌝ }
-    requires { ⌜ AlternativesLeft (now tokens) (now sums) (now records) (now labels) (now finals) (length (now keys) ∷ length (now places) ∷ length (now order) ∷ []) d ⌝ }
+    requires { ⌜ AlternativesLeft (now tokens) (now sums) (now records) (now labels) (now finals) (8192 ∷ 4096 ∷ 4096 ∷ []) d ⌝ }
     ensures { λ t. ⌜ NextIs d t ⌝ }
 {
     let use_final = word_at(calls, r.start) == 1;
     let max = word_at(calls, r.start + 1) as usize;
+    let mut keys = key_places();
+    let mut places = state_places();
+    let mut own = state_places();
     match decoder::alternatives(
         tokens,
         sums,
@@ -1466,9 +1462,9 @@ fn answer_alternatives(
         d,
         use_final,
         max,
-        keys,
-        places,
-        order,
+        &mut keys,
+        &mut places,
+        &mut own,
         words,
         frames,
         segments,
@@ -1524,6 +1520,240 @@ fn list_fits(calls: &[u32], r: Record, used: usize) -> bool
     asked(calls, r, 5, NO_LIMIT) <= 16384
 }
 
+// The payload of a readings call is whether finals are used, how many readings are listed and how many are traced at most, and perhaps the lengths of the output.
+fn readings(
+    calls: &[u32],
+    r: Record,
+    loan: Loan,
+    tokens: &[u32],
+    sums: &[f32],
+    records: &[u32],
+    labels: &[i32],
+    gaps: &[f32],
+    finals: &[f32],
+    d: Decoder,
+) -> Answered
+    requires { ⌜ Inside (now calls) r ⌝ }
+    requires { ⌜ ReadingsLeft (now tokens) (now sums) (now records) (now labels) (now gaps) (now finals) readingsHere recordsHere d ⌝ }
+    ensures { λ t. ⌜ NextIs d t ⌝ }
+{
+    if !readings_shaped(calls, r) {
+        say_fault(READINGS);
+        return Answered::Next(d);
+    }
+    let mut words = reading_words();
+    let mut frames = list_frames();
+    let mut segments = list_segments();
+    let mut numbers = reading_numbers();
+    let mut costs = reading_costs();
+    let list = list_readings(
+        calls,
+        r,
+        lengths_of(calls, r, loan),
+        tokens,
+        sums,
+        records,
+        labels,
+        gaps,
+        finals,
+        d,
+        &mut words,
+        &mut frames,
+        &mut segments,
+        &mut numbers,
+        &mut costs,
+    );
+    say_list(
+        calls,
+        r,
+        loan,
+        list,
+        &words,
+        &frames,
+        &segments,
+        &numbers,
+        &costs,
+        d,
+    )
+}
+
+// What a reading list answers: its readings, or a refusal.
+fn say_list(
+    calls: &[u32],
+    r: Record,
+    loan: Loan,
+    list: ReadingList,
+    words: &[i32],
+    frames: &[u32],
+    segments: &[u32],
+    numbers: &[u64],
+    costs: &[f32],
+    d: Decoder,
+) -> Answered
+    requires { ⌜ Inside (now calls) r ⌝ }
+    ensures { λ t. ⌜ NextIs d t ⌝ }
+{
+    match list {
+        ReadingList::Readings(k) => {
+            let max = traced_of(calls, r);
+            say_readings(least(k, 4096), max, words, frames, segments, numbers, costs);
+            Answered::Next(d)
+        }
+        ReadingList::Refused(number) => say_unread(calls, r, loan, number, d),
+    }
+}
+
+// A refusal stands where what it is for is as long as the script asks for.
+fn say_unread(calls: &[u32], r: Record, loan: Loan, number: u32, d: Decoder) -> Answered
+    requires { ⌜ Inside (now calls) r ⌝ }
+    ensures { λ t. ⌜ NextIs d t ⌝ }
+{
+    if number == NO_ENTRY {
+        if !all_entries(loan) {
+            say_fault(READINGS);
+            return Answered::Over;
+        }
+    }
+    if number == TOO_SHORT {
+        if !all_output(calls, r) {
+            say_fault(READINGS);
+            return Answered::Over;
+        }
+    }
+    say(READINGS, number);
+    Answered::Next(d)
+}
+
+fn all_entries(loan: Loan) -> bool {
+    if 65536 < loan.below {
+        return false;
+    }
+    loan.kept <= 8192
+}
+
+fn all_output(calls: &[u32], r: Record) -> bool
+    requires { ⌜ Inside (now calls) r ⌝ }
+{
+    if 4096 < asked(calls, r, 3, NO_LIMIT) {
+        return false;
+    }
+    if 65536 < asked(calls, r, 4, NO_LIMIT) {
+        return false;
+    }
+    if 16384 < asked(calls, r, 5, NO_LIMIT) {
+        return false;
+    }
+    asked(calls, r, 6, NO_LIMIT) <= 16384
+}
+
+// How much of the stores and of the output is lent.
+struct Lengths {
+    below: usize,
+    kept: usize,
+    entries: usize,
+    words: usize,
+    frames: usize,
+    segments: usize,
+}
+
+fn lengths_of(calls: &[u32], r: Record, loan: Loan) -> Lengths
+    requires { ⌜ Inside (now calls) r ⌝ }
+    ensures { λ t. ⌜ LengthsWithin t ⌝ }
+{
+    Lengths {
+        below: least(loan.below, 65536),
+        kept: least(loan.kept, 8192),
+        entries: least(asked(calls, r, 3, NO_LIMIT), 4096),
+        words: least(asked(calls, r, 4, NO_LIMIT), 65536),
+        frames: least(asked(calls, r, 5, NO_LIMIT), 16384),
+        segments: least(asked(calls, r, 6, NO_LIMIT), 16384),
+    }
+}
+
+fn readings_shaped(calls: &[u32], r: Record) -> bool {
+    if r.count < 3 {
+        return false;
+    }
+    if 7 < r.count {
+        return false;
+    }
+    word_at(calls, r.start) < 2
+}
+
+fn traced_of(calls: &[u32], r: Record) -> usize
+    requires { ⌜ Inside (now calls) r ⌝ }
+{
+    word_at(calls, r.start + 2) as usize
+}
+
+fn list_readings(
+    calls: &[u32],
+    r: Record,
+    s: Lengths,
+    tokens: &[u32],
+    sums: &[f32],
+    records: &[u32],
+    labels: &[i32],
+    gaps: &[f32],
+    finals: &[f32],
+    d: Decoder,
+    words: &mut [i32],
+    frames: &mut [u32],
+    segments: &mut [u32],
+    numbers: &mut [u64],
+    costs: &mut [f32],
+) -> ReadingList
+    requires { ⌜ Inside (now calls) r ⌝ }
+    requires { ⌜ ReadingsLeft (now tokens) (now sums) (now records) (now labels) (now gaps) (now finals) readingsHere recordsHere d ⌝ }
+    requires { ⌜ LengthsWithin s × OutputHere (now words) (now frames) (now segments) (now numbers) (now costs) ⌝ }
+{
+    let mut keys = key_places();
+    let mut places = state_places();
+    let mut own = state_places();
+    let mut heads = state_places();
+    let mut lists = list_places();
+    let mut route = route_places();
+    let mut hashes = entry_hash_places();
+    let mut nexts = entry_next_places();
+    let mut gains = entry_sum_places();
+    let mut kept_hashes = kept_hash_places();
+    let mut kept_links = kept_link_places();
+    let mut kept_sums = kept_sum_places();
+    let mut numbering = kept_order_places();
+    let mut list = item_places();
+    decoder::reading_list(
+        tokens,
+        sums,
+        records,
+        labels,
+        gaps,
+        finals,
+        d,
+        word_at(calls, r.start) == 1,
+        word_at(calls, r.start + 1) as usize,
+        traced_of(calls, r),
+        &mut keys,
+        &mut places,
+        &mut own,
+        &mut heads,
+        &mut list,
+        &mut lists,
+        &mut route,
+        &mut hashes[..s.below],
+        &mut nexts,
+        &mut gains,
+        &mut kept_hashes[..s.kept],
+        &mut kept_links,
+        &mut kept_sums,
+        &mut numbering,
+        &mut words[..s.words],
+        &mut frames[..s.frames],
+        &mut segments[..3 * s.segments],
+        &mut numbers[..5 * s.entries],
+        &mut costs[..4 * s.entries],
+    )
+}
+
 // ---- reading
 
 // Copies k words of a chunk to the places from `at` on.
@@ -1569,6 +1799,17 @@ fn word_at(calls: &[u32], at: usize) -> u32 {
 // The same as i32 and as f32.
 fn label_at(words: &[i32], at: usize) -> i32 {
     if at < words.len() { words[at] } else { 0 }
+}
+
+fn number_at(numbers: &[u64], at: usize) -> u32 {
+    if numbers.len() <= at {
+        return 0;
+    }
+    let n = numbers[at];
+    if 0xffff_ffff < n {
+        return 0xffff_ffff;
+    }
+    n as u32
 }
 
 fn cost_at(costs: &[f32], at: usize) -> f32 {
@@ -1727,6 +1968,119 @@ fn say_path(cost: f32, words: &[i32], frames: &[u32], segments: &[u32], from: En
     io::write_all(STDOUT_FILENO, &out[..12 + 8 * n + 12 * m]);
 }
 
+// The answer of k readings: their number, then each, then the paths of the first `max`.
+fn say_readings(
+    k: usize,
+    max: usize,
+    words: &[i32],
+    frames: &[u32],
+    segments: &[u32],
+    numbers: &[u64],
+    costs: &[f32],
+)
+    requires { ⌜ k ≤ 4096 ⌝ }
+{
+    let t = least(max, k);
+    say_readings_head(k, t, words_to(numbers, k), traced_to(numbers, t));
+    let mut i = 0;
+    while i < k {
+        say_group(i, words, numbers, costs);
+        i += 1;
+    }
+    say_traced(t, words, frames, segments, numbers, costs);
+}
+
+// The number of them, then each path.
+fn say_traced(
+    t: usize,
+    words: &[i32],
+    frames: &[u32],
+    segments: &[u32],
+    numbers: &[u64],
+    costs: &[f32],
+)
+    requires { ⌜ t ≤ 4096 ⌝ }
+{
+    let mut out = [0u8; 4];
+    script::put_word(&mut out, 0, t as u32);
+    io::write_all(STDOUT_FILENO, &out);
+    let mut i = 0;
+    while i < t {
+        let from = traced_to(numbers, i);
+        let to = traced_to(numbers, i + 1);
+        say_path(cost_at(costs, 4 * i + 1), words, frames, segments, from, to);
+        i += 1;
+    }
+}
+
+// Where the words of the first i readings end.
+fn words_to(numbers: &[u64], i: usize) -> usize
+    requires { ⌜ i ≤ 4096 ⌝ }
+    ensures { λ t. ⌜ t ≤ 65536 ⌝ }
+{
+    if i == 0 {
+        return 0;
+    }
+    least(number_at(numbers, 5 * i - 5) as usize, 65536)
+}
+
+// Where the words and the segments of the first i traced readings end.
+fn traced_to(numbers: &[u64], i: usize) -> Ends
+    requires { ⌜ i ≤ 4096 ⌝ }
+    ensures { λ t. ⌜ EndsWithin t ⌝ }
+{
+    if i == 0 {
+        return ends_of(0, 0);
+    }
+    ends_of(number_at(numbers, 5 * i - 5), number_at(numbers, 5 * i - 4))
+}
+
+// The head of an answer of k readings of so many words, t of them traced.
+fn say_readings_head(k: usize, t: usize, words: usize, to: Ends)
+    requires { ⌜ (k ≤ 4096) × (t ≤ 4096) × (words ≤ 65536) × EndsWithin to ⌝ }
+{
+    let mut out = [0u8; 16];
+    script::put_word(&mut out, 0, READINGS);
+    script::put_word(
+        &mut out,
+        1,
+        (3 + 8 * k + words + 3 * t + 2 * to.words + 3 * to.segments) as u32,
+    );
+    script::put_word(&mut out, 2, 0);
+    script::put_word(&mut out, 3, k as u32);
+    io::write_all(STDOUT_FILENO, &out);
+}
+
+// The i-th reading: its rank and cost, how many kept histories it takes, its token's cost, graph sum, phone and seq, and its words, at most one for each record.
+fn say_group(i: usize, words: &[i32], numbers: &[u64], costs: &[f32])
+    requires { ⌜ i < 4096 ⌝ }
+{
+    let from = words_to(numbers, i);
+    let n = least(less(words_to(numbers, i + 1), from), 8192);
+    let mut out = [0u8; 32800];
+    script::put_word(&mut out, 0, script::bits_of(cost_at(costs, 4 * i)));
+    script::put_word(&mut out, 1, script::bits_of(cost_at(costs, 4 * i + 1)));
+    script::put_word(&mut out, 2, number_at(numbers, 5 * i + 2));
+    script::put_word(&mut out, 3, script::bits_of(cost_at(costs, 4 * i + 2)));
+    script::put_word(&mut out, 4, script::bits_of(cost_at(costs, 4 * i + 3)));
+    script::put_word(&mut out, 5, number_at(numbers, 5 * i + 3));
+    script::put_word(&mut out, 6, number_at(numbers, 5 * i + 4));
+    script::put_word(&mut out, 7, n as u32);
+    put_labels(&mut out, words, from, n);
+    io::write_all(STDOUT_FILENO, &out[..32 + 4 * n]);
+}
+
+// Puts n words from a place on behind the first eight words.
+fn put_labels(out: &mut [u8], words: &[i32], from: usize, n: usize)
+    requires { ⌜ (from ≤ 65536) × (n ≤ 8192) ⌝ }
+{
+    let mut i = 0;
+    while i < n {
+        script::put_word(out, 8 + i, script::word_of(label_at(words, from + i)));
+        i += 1;
+    }
+}
+
 // The difference, or 0.
 fn less(a: usize, b: usize) -> usize {
     if b < a { a - b } else { 0 }
@@ -1758,10 +2112,10 @@ fn put_segments(out: &mut [u8], at: usize, segments: &[u32], from: usize, m: usi
 // ---- places
 
 // For the script. The `ensures` gives the length alone, which lending the array as a slice needs.
-fn script_places() -> [u32; 524288]
-    ensures { λ t. ⌜ 524288 ≡ length t ⌝ }
+fn script_places() -> [u32; 327680]
+    ensures { λ t. ⌜ 327680 ≡ length t ⌝ }
 {
-    [0; 524288]
+    [0; 327680]
 }
 
 // For a graph: its states, arcs and transition ids.
@@ -1844,10 +2198,10 @@ fn cost_places() -> [f32; 4096]
     [0.0; 4096]
 }
 
-fn key_places() -> [u64; 4096]
-    ensures { λ t. ⌜ 4096 ≡ length t ⌝ }
+fn key_places() -> [u64; 8192]
+    ensures { λ t. ⌜ 8192 ≡ length t ⌝ }
 {
-    [0; 4096]
+    [0; 8192]
 }
 
 fn state_places() -> [u32; 4096]
@@ -1917,4 +2271,85 @@ fn list_costs() -> [f32; 64]
     ensures { λ t. ⌜ 64 ≡ length t ⌝ }
 {
     [0.0; 64]
+}
+
+// For readings: two numbers for each record, and a place for each on a route.
+fn list_places() -> [u32; 16384]
+    ensures { λ t. ⌜ 16384 ≡ length t ⌝ }
+{
+    [0; 16384]
+}
+
+fn route_places() -> [u32; 8192]
+    ensures { λ t. ⌜ 8192 ≡ length t ⌝ }
+{
+    [0; 8192]
+}
+
+// For the entries below joins, and for kept readings; a reading of either kind has an item in the list.
+fn entry_hash_places() -> [u64; 65536]
+    ensures { λ t. ⌜ 65536 ≡ length t ⌝ }
+{
+    [0; 65536]
+}
+
+fn entry_next_places() -> [u32; 196608]
+    ensures { λ t. ⌜ 196608 ≡ length t ⌝ }
+{
+    [0; 196608]
+}
+
+fn entry_sum_places() -> [f32; 131072]
+    ensures { λ t. ⌜ 131072 ≡ length t ⌝ }
+{
+    [0.0; 131072]
+}
+
+fn kept_hash_places() -> [u64; 8192]
+    ensures { λ t. ⌜ 8192 ≡ length t ⌝ }
+{
+    [0; 8192]
+}
+
+fn kept_link_places() -> [u32; 32768]
+    ensures { λ t. ⌜ 32768 ≡ length t ⌝ }
+{
+    [0; 32768]
+}
+
+fn kept_sum_places() -> [f32; 16384]
+    ensures { λ t. ⌜ 16384 ≡ length t ⌝ }
+{
+    [0.0; 16384]
+}
+
+fn kept_order_places() -> [u32; 8192]
+    ensures { λ t. ⌜ 8192 ≡ length t ⌝ }
+{
+    [0; 8192]
+}
+
+fn item_places() -> [u32; 12288]
+    ensures { λ t. ⌜ 12288 ≡ length t ⌝ }
+{
+    [0; 12288]
+}
+
+// Five numbers and four costs for each reading.
+fn reading_words() -> [i32; 65536]
+    ensures { λ t. ⌜ 65536 ≡ length t ⌝ }
+{
+    [0; 65536]
+}
+
+fn reading_numbers() -> [u64; 20480]
+    ensures { λ t. ⌜ 20480 ≡ length t ⌝ }
+{
+    [0; 20480]
+}
+
+fn reading_costs() -> [f32; 16384]
+    ensures { λ t. ⌜ 16384 ≡ length t ⌝ }
+{
+    [0.0; 16384]
 }

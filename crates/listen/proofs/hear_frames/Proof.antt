@@ -14,7 +14,7 @@ use Rattle.listen.proofs.hear_frames.Tie as tie
 
 abbrev Inv-loop : tie.InvT-loop
 Inv-loop tokens₀ sums₀ records₀ labels₀ gaps₀ queue₀ scratch₀ eps offsets ilabels olabels weights nextstates finals tid2pdf tid2phone d₀ i₀ tokens sums records labels gaps queue scratch d i =
-    (i ≤ 8) × Held (graphTables offsets ilabels olabels weights nextstates tid2pdf tid2phone) (lent tokens sums records labels gaps) finals eps (length queue) (length scratch ∷ []) d × AsLong tokens₀ tokens sums₀ sums records₀ records labels₀ labels gaps₀ gaps queue₀ queue scratch₀ scratch
+    (i ≤ 8) × Held (graphTables offsets ilabels olabels weights nextstates tid2pdf tid2phone) (lent tokens sums records labels gaps) finals eps (length queue) (length scratch ∷ []) [] d × AsLong tokens₀ tokens sums₀ sums records₀ records labels₀ labels gaps₀ gaps queue₀ queue scratch₀ scratch
 
 abbrev μ-loop : tie.MeasureT-loop
 μ-loop tokens₀ sums₀ records₀ labels₀ gaps₀ queue₀ scratch₀ eps offsets ilabels olabels weights nextstates finals tid2pdf tid2phone d₀ i₀ tokens sums records labels gaps queue scratch d i =

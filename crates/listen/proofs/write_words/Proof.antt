@@ -1,7 +1,6 @@
 -- `listen::write_words` is safe and ends.
 use Prim.Native.Nat.{_-_, _≤_}
 use borrow.Author.Needs.{needs}
-use native.Mathlib.Omega.{arith}
 use Rattle.listen.proofs.write_words.Statement.{statement}
 use Rattle.listen.proofs.write_words.Tie as tie
 

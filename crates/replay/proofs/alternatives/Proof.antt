@@ -58,13 +58,13 @@ array-borrow-prefix-words : tie.Need-array-borrow-prefix-words
 array-borrow-prefix-words c = search needs
 
 slice-aggregate-answer-alternatives : tie.Need-slice-aggregate-answer-alternatives
-slice-aggregate-answer-alternatives c = sym (length-take-le _ _ (omega (arith, c .before .before .before .before .before .before .before .before .before .before .before .before .before .least2 .ensures, c .before .before .before .before .before .before .before .before .list-words .ensures)))
+slice-aggregate-answer-alternatives c = sym (length-take-le _ _ (omega (arith, c .before .before .before .before .before .before .before .before .before .before .least2 .ensures, c .before .before .before .before .before .list-words .ensures)))
 
 array-borrow-prefix-frames : tie.Need-array-borrow-prefix-frames
 array-borrow-prefix-frames c = search needs
 
 slice-aggregate-answer-alternatives-2 : tie.Need-slice-aggregate-answer-alternatives-2
-slice-aggregate-answer-alternatives-2 c = sym (length-take-le _ _ (omega (arith, c .before .before .before .before .before .before .before .before .before .before .before .before .least3 .ensures, c .before .before .before .before .before .before .before .before .list-frames .ensures)))
+slice-aggregate-answer-alternatives-2 c = sym (length-take-le _ _ (omega (arith, c .before .before .before .before .before .before .before .before .before .least3 .ensures, c .before .before .before .before .before .list-frames .ensures)))
 
 mul-segments : tie.Need-mul-segments
 mul-segments c = search needs
@@ -73,37 +73,60 @@ array-borrow-prefix-segments : tie.Need-array-borrow-prefix-segments
 array-borrow-prefix-segments c = search needs
 
 slice-aggregate-answer-alternatives-3 : tie.Need-slice-aggregate-answer-alternatives-3
-slice-aggregate-answer-alternatives-3 c = sym (length-take-le _ _ (omega (arith, c .before .before .before .before .before .before .before .before .before .before .before .least4 .ensures, c .before .before .before .before .before .before .before .before .list-segments .ensures)))
+slice-aggregate-answer-alternatives-3 c = sym (length-take-le _ _ (omega (arith, c .before .before .before .before .before .before .before .before .least4 .ensures, c .before .before .before .before .before .list-segments .ensures)))
 
 mul-list : tie.Need-mul-list
-mul-list c = record { fits = omega (arith, c .before .before .before .before .before .before .before .before .before .before .before .before .before .before .before .before .before .least .ensures) }
+mul-list c = record { fits = omega (arith, c .before .before .before .before .before .before .before .before .before .before .before .before .before .before .least .ensures) }
 
 array-borrow-prefix-list : tie.Need-array-borrow-prefix-list
-array-borrow-prefix-list c = omega (arith, c .before .before .before .before .before .before .before .before .before .before .before .before .before .before .before .before .before .least .ensures, c .before .before .before .before .before .before .before .list-ends .ensures)
+array-borrow-prefix-list c = omega (arith, c .before .before .before .before .before .before .before .before .before .before .before .before .before .before .least .ensures, c .before .before .before .before .list-ends .ensures)
 
 slice-aggregate-answer-alternatives-4 : tie.Need-slice-aggregate-answer-alternatives-4
-slice-aggregate-answer-alternatives-4 c = sym (length-take-le _ _ (omega (arith, c .before .before .before .before .before .before .before .before .before .before .before .before .before .before .before .before .before .before .least .ensures, c .before .before .before .before .before .before .before .before .list-ends .ensures)))
+slice-aggregate-answer-alternatives-4 c = sym (length-take-le _ _ (omega (arith, c .before .before .before .before .before .before .before .before .before .before .before .before .before .before .before .least .ensures, c .before .before .before .before .before .list-ends .ensures)))
 
 array-borrow-prefix-costs : tie.Need-array-borrow-prefix-costs
-array-borrow-prefix-costs c = omega (arith, c .before .before .before .before .before .before .before .before .before .before .before .before .before .before .before .before .before .before .least .ensures, c .before .before .before .before .before .before .before .list-costs .ensures)
+array-borrow-prefix-costs c = omega (arith, c .before .before .before .before .before .before .before .before .before .before .before .before .before .before .before .least .ensures, c .before .before .before .before .list-costs .ensures)
 
 slice-aggregate-answer-alternatives-5 : tie.Need-slice-aggregate-answer-alternatives-5
-slice-aggregate-answer-alternatives-5 c = sym (length-take-le _ _ (omega (arith, c .before .before .before .before .before .before .before .before .before .before .before .before .before .before .before .before .before .before .before .least .ensures, c .before .before .before .before .before .before .before .before .list-costs .ensures)))
+slice-aggregate-answer-alternatives-5 c = sym (length-take-le _ _ (omega (arith, c .before .before .before .before .before .before .before .before .before .before .before .before .before .before .before .before .least .ensures, c .before .before .before .before .before .list-costs .ensures)))
 
 answer-alternatives-requires : tie.Need-answer-alternatives-requires
-answer-alternatives-requires c κs = c .before .before .before .before .before .before .before .before .before .before .before .before .before .before .before .before .before .before .before .before .before .before .before .before .before .before .before .before .before .before .before .pre
-
-same-length : tie.Need-same-length
-same-length c = search needs
-
-same-length-2 : tie.Need-same-length-2
-same-length-2 c = search needs
-
-same-length-3 : tie.Need-same-length-3
-same-length-3 c = search needs
+answer-alternatives-requires c κs = c .before .before .before .before .before .before .before .before .before .before .before .before .before .before .before .before .before .before .before .before .before .before .before .before .before .pre
 
 returns-2 : tie.Need-returns-2
-returns-2 c = c .before .before .before .before .before .before .before .before .before .before .before .answer-alternatives .ensures
+returns-2 c = c .before .before .before .before .before .answer-alternatives .ensures
 
 pub alternatives-spec : {M : Type 1} → statement M
-alternatives-spec = tie.close (tie.spec alternatives-shaped-requires say-fault-requires returns asked-requires least-requires asked-requires-2 least-requires-2 asked-requires-3 least-requires-3 asked-requires-4 least-requires-4 list-words-requires list-frames-requires list-segments-requires list-ends-requires list-costs-requires array-borrow-prefix-words slice-aggregate-answer-alternatives array-borrow-prefix-frames slice-aggregate-answer-alternatives-2 mul-segments array-borrow-prefix-segments slice-aggregate-answer-alternatives-3 mul-list array-borrow-prefix-list slice-aggregate-answer-alternatives-4 array-borrow-prefix-costs slice-aggregate-answer-alternatives-5 answer-alternatives-requires same-length same-length-2 same-length-3 returns-2)
+alternatives-spec =
+    tie.close
+    (tie.spec
+    alternatives-shaped-requires
+    say-fault-requires
+    returns
+    asked-requires
+    least-requires
+    asked-requires-2
+    least-requires-2
+    asked-requires-3
+    least-requires-3
+    asked-requires-4
+    least-requires-4
+    list-words-requires
+    list-frames-requires
+    list-segments-requires
+    list-ends-requires
+    list-costs-requires
+    array-borrow-prefix-words
+    slice-aggregate-answer-alternatives
+    array-borrow-prefix-frames
+    slice-aggregate-answer-alternatives-2
+    mul-segments
+    array-borrow-prefix-segments
+    slice-aggregate-answer-alternatives-3
+    mul-list
+    array-borrow-prefix-list
+    slice-aggregate-answer-alternatives-4
+    array-borrow-prefix-costs
+    slice-aggregate-answer-alternatives-5
+    answer-alternatives-requires
+    returns-2)

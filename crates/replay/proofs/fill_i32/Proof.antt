@@ -5,7 +5,6 @@ use borrow.Author.Tests.{not-false}
 use lib.ListN.{length, length-set}
 use Rattle.replay.specs.Places.{can-fill-true}
 use borrow.Author.Needs.{needs}
-use native.Mathlib.Omega.{arith}
 use Rattle.replay.proofs.fill_i32.Statement.{statement}
 use Rattle.replay.proofs.fill_i32.Tie as tie
 

@@ -30,11 +30,11 @@ cost-places-requires c κs = search needs
 key-places-requires : tie.Need-key-places-requires
 key-places-requires c κs = search needs
 
-state-places-requires : tie.Need-state-places-requires
-state-places-requires c κs = search needs
+list-places-requires : tie.Need-list-places-requires
+list-places-requires c κs = search needs
 
-state-places-requires-2 : tie.Need-state-places-requires-2
-state-places-requires-2 c κs = search needs
+slice-aggregate-numbers : tie.Need-slice-aggregate-numbers
+slice-aggregate-numbers c = search needs
 
 eps-places-requires : tie.Need-eps-places-requires
 eps-places-requires c κs = search needs
@@ -99,32 +99,32 @@ array-share-prefix-scratch c = search needs
 slice-aggregate-fit-7 : tie.Need-slice-aggregate-fit-7
 slice-aggregate-fit-7 c = sym (length-take-le _ _ (omega (arith, c .before .before .before .before .before .before .before .loan-of .ensures .0, c .before .before .before .before .before .before .before .before .before .before .before .before .cost-places .ensures)))
 
-array-share-prefix-keys : tie.Need-array-share-prefix-keys
-array-share-prefix-keys c = search needs
-
 slice-aggregate-fit-8 : tie.Need-slice-aggregate-fit-8
-slice-aggregate-fit-8 c = sym (length-take-le _ _ (omega (arith, c .before .before .before .before .before .before .before .before .loan-of .ensures .0, c .before .before .before .before .before .before .before .before .before .before .before .before .key-places .ensures)))
-
-array-share-prefix-places : tie.Need-array-share-prefix-places
-array-share-prefix-places c = search needs
+slice-aggregate-fit-8 c = search needs
 
 slice-aggregate-fit-9 : tie.Need-slice-aggregate-fit-9
-slice-aggregate-fit-9 c = sym (length-take-le _ _ (omega (arith, c .before .before .before .before .before .before .before .before .before .loan-of .ensures .0, c .before .before .before .before .before .before .before .before .before .before .before .before .state-places .ensures)))
-
-array-share-prefix-order : tie.Need-array-share-prefix-order
-array-share-prefix-order c = search needs
+slice-aggregate-fit-9 c = sym (length-take-le 4096 (c .before .before .before .before .before .before .before .before .before .before .before .before .list-places .result) (omega (arith, c .before .before .before .before .before .before .before .before .before .before .before .before .list-places .ensures)))
 
 slice-aggregate-fit-10 : tie.Need-slice-aggregate-fit-10
-slice-aggregate-fit-10 c = sym (length-take-le _ _ (omega (arith, c .before .before .before .before .before .before .before .before .before .before .loan-of .ensures .0, c .before .before .before .before .before .before .before .before .before .before .before .before .state-places2 .ensures)))
+slice-aggregate-fit-10 c = sym (length-take-le 4096 (c .before .before .before .before .before .before .before .before .before .before .before .before .before .list-places .result) (omega (arith, c .before .before .before .before .before .before .before .before .before .before .before .before .before .list-places .ensures)))
+
+slice-aggregate-fit-11 : tie.Need-slice-aggregate-fit-11
+slice-aggregate-fit-11 c = sym (length-take-le 4096 (c .before .before .before .before .before .before .before .before .before .before .before .before .before .before .list-places .result) (omega (arith, c .before .before .before .before .before .before .before .before .before .before .before .before .before .before .list-places .ensures)))
+
+slice-aggregate-fit-12 : tie.Need-slice-aggregate-fit-12
+slice-aggregate-fit-12 c = sym (length-take-le 12288 (c .before .before .before .before .before .before .before .before .before .before .before .before .before .before .before .list-places .result) (omega (arith, c .before .before .before .before .before .before .before .before .before .before .before .before .before .before .before .list-places .ensures)))
+
+slice-aggregate-fit-13 : tie.Need-slice-aggregate-fit-13
+slice-aggregate-fit-13 c = sym (length-take-le 8192 (c .before .before .before .before .before .before .before .before .before .before .before .before .before .before .before .before .list-places .result) (omega (arith, c .before .before .before .before .before .before .before .before .before .before .before .before .before .before .before .before .list-places .ensures)))
 
 array-borrow-prefix-eps : tie.Need-array-borrow-prefix-eps
 array-borrow-prefix-eps c = search needs
 
-slice-aggregate-fit-11 : tie.Need-slice-aggregate-fit-11
-slice-aggregate-fit-11 c = sym (length-take-le _ _ (omega (arith, c .before .before .before .before .before .before .before .before .before .before .before .loan-of .ensures .0, c .before .before .before .before .before .before .before .before .before .before .before .before .eps-places .ensures)))
+slice-aggregate-fit-14 : tie.Need-slice-aggregate-fit-14
+slice-aggregate-fit-14 c = sym (length-take-le _ _ (omega (arith, c .before .before .before .before .before .before .before .before .before .before .before .before .before .before .loan-of .ensures .0, c .before .before .before .before .before .before .before .before .before .before .before .before .before .before .before .eps-places .ensures)))
 
 config-of-requires : tie.Need-config-of-requires
-config-of-requires c κs = search needs
+config-of-requires c κs = omega (arith, c .before .before .before .before .before .before .before .before .before .before .before .before .before .before .before .before .before .before .before .before .before .before .before .before .before .before .before .before .before .before .before .pre)
 
 fit-requires : tie.Need-fit-requires
 fit-requires c κs = search needs
@@ -136,4 +136,49 @@ returns : tie.Need-returns
 returns c = search needs
 
 pub fit-apart-spec : {M : Type 1} → statement M
-fit-apart-spec = tie.close (tie.spec token-places-requires sum-places-requires record-places-requires word-places-requires gap-places-requires queue-places-requires cost-places-requires key-places-requires state-places-requires state-places-requires-2 eps-places-requires loan-of-requires mul-tokens array-borrow-prefix-tokens slice-aggregate-fit mul-sums array-borrow-prefix-sums slice-aggregate-fit-2 mul-records array-borrow-prefix-records slice-aggregate-fit-3 mul-labels array-borrow-prefix-labels slice-aggregate-fit-4 mul-gaps array-borrow-prefix-gaps slice-aggregate-fit-5 array-borrow-prefix-queue slice-aggregate-fit-6 array-share-prefix-scratch slice-aggregate-fit-7 array-share-prefix-keys slice-aggregate-fit-8 array-share-prefix-places slice-aggregate-fit-9 array-share-prefix-order slice-aggregate-fit-10 array-borrow-prefix-eps slice-aggregate-fit-11 config-of-requires fit-requires say-unfit-requires returns)
+fit-apart-spec =
+    tie.close
+    (tie.spec
+    token-places-requires
+    sum-places-requires
+    record-places-requires
+    word-places-requires
+    gap-places-requires
+    queue-places-requires
+    cost-places-requires
+    key-places-requires
+    list-places-requires
+    slice-aggregate-numbers
+    eps-places-requires
+    loan-of-requires
+    mul-tokens
+    array-borrow-prefix-tokens
+    slice-aggregate-fit
+    mul-sums
+    array-borrow-prefix-sums
+    slice-aggregate-fit-2
+    mul-records
+    array-borrow-prefix-records
+    slice-aggregate-fit-3
+    mul-labels
+    array-borrow-prefix-labels
+    slice-aggregate-fit-4
+    mul-gaps
+    array-borrow-prefix-gaps
+    slice-aggregate-fit-5
+    array-borrow-prefix-queue
+    slice-aggregate-fit-6
+    array-share-prefix-scratch
+    slice-aggregate-fit-7
+    slice-aggregate-fit-8
+    slice-aggregate-fit-9
+    slice-aggregate-fit-10
+    slice-aggregate-fit-11
+    slice-aggregate-fit-12
+    slice-aggregate-fit-13
+    array-borrow-prefix-eps
+    slice-aggregate-fit-14
+    config-of-requires
+    fit-requires
+    say-unfit-requires
+    returns)

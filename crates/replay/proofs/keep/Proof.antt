@@ -3,7 +3,6 @@ use mathlib.Core.Bool.{true, false}
 use Rattle.model.specs.Basics.{0f}
 use Rattle.replay.specs.Held.{kept-left}
 use borrow.Author.Needs.{needs}
-use native.Mathlib.Omega.{arith}
 use Rattle.replay.proofs.keep.Statement.{statement}
 use Rattle.replay.proofs.keep.Tie as tie
 

@@ -1,7 +1,6 @@
 -- `replay::say_called` meets its contract: what a call gave back goes on.
 use mathlib.Core.Path.{refl}
 use borrow.Author.Needs.{needs}
-use native.Mathlib.Omega.{arith}
 use Rattle.replay.proofs.say_called.Statement.{statement}
 use Rattle.replay.proofs.say_called.Tie as tie
 

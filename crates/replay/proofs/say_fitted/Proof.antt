@@ -1,7 +1,6 @@
 -- `replay::say_fitted` meets its contract: the decoder that was fitted goes on.
 use mathlib.Core.Path.{refl}
 use borrow.Author.Needs.{needs}
-use native.Mathlib.Omega.{arith}
 use Rattle.replay.proofs.say_fitted.Statement.{statement}
 use Rattle.replay.proofs.say_fitted.Tie as tie
 

@@ -1,7 +1,6 @@
 -- `replay::start_again` meets its contract.
 use Rattle.replay.specs.Held.{called-left}
 use borrow.Author.Needs.{needs}
-use native.Mathlib.Omega.{arith}
 use Rattle.replay.proofs.start_again.Statement.{statement}
 use Rattle.replay.proofs.start_again.Tie as tie
 

@@ -1,7 +1,6 @@
 -- `replay::try_new` meets its contract: a run of calls stops at this record.
 use mathlib.Core.Path.{refl}
 use borrow.Author.Needs.{needs}
-use native.Mathlib.Omega.{arith}
 use Rattle.replay.proofs.try_new.Statement.{statement}
 use Rattle.replay.proofs.try_new.Tie as tie
 
