@@ -1,0 +1,4 @@
+-- Laws of this crate's proofs.
+pub mod Steps
+pub mod Table
+pub mod Same
