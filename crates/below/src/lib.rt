@@ -39,7 +39,7 @@ fn own_way(records: &[u32], labels: &[i32], lists: &[u32], used: u32, r: u32) ->
     ensures { λ w. ⌜ OwnReach (now (records .entry)) (now (labels .entry)) used (now (lists .entry)) r w ⌝ }
 {
     let link = records::prev_of(records, r);
-    let end = histories::end_of(records, labels, used, link, true);
+    let end = histories::first_join(records, labels, used, link);
     let words = histories::hash_above(records, labels, used, link, end);
     Way {
         first: first_of(lists, end),
@@ -78,7 +78,7 @@ fn kept_way(
     ensures { λ w. ⌜ KeptReach (now (records .entry)) (now (labels .entry)) (now (gaps .entry)) used (now (lists .entry)) r margin w ⌝ }
 {
     let link = records::kept_of(records, r);
-    let end = histories::end_of(records, labels, used, link, true);
+    let end = histories::first_join(records, labels, used, link);
     let above = histories::hash_above(records, labels, used, link, end);
     let words = histories::with_word(above, records::kept_word_of(labels, r));
     let cost = records::cost_of(gaps, r);
@@ -122,7 +122,7 @@ fn want_end(records: &[u32], labels: &[i32], used: u32, lists: &mut [u32], link:
     requires { ⌜ (Chains (now records) (now labels) used) × (link ≤ used) × (used * 2 ≤ length (now lists)) ⌝ }
     ensures { λ _. ⌜ EndWanted (now (records .entry)) (now (labels .entry)) used link (now (lists .entry)) (now (lists .exit)) ⌝ }
 {
-    want(lists, histories::end_of(records, labels, used, link, true));
+    want(lists, histories::first_join(records, labels, used, link));
 }
 
 // Marks the newest joins of the first n states' histories.

@@ -39,11 +39,20 @@ fn smaller(a: usize, b: usize) -> usize
     if b < a { b } else { a }
 }
 
-// The places for records, of slices of these lengths: eight numbers in one, two in each of two others, and two and one that the reading list keeps.
-pub fn capacity(records: usize, labels: usize, gaps: usize, lists: usize, route: usize) -> usize
-    ensures { λ r. ⌜ r ≡ leastOf (records / 8) (labels / 2 ∷ gaps / 2 ∷ lists / 2 ∷ route ∷ []) ⌝ }
+// The places for records, of slices of these lengths: eight numbers in one, two in each of two others; and of those that the reads work in, two, one, two and two.
+pub fn capacity(
+    records: usize,
+    labels: usize,
+    gaps: usize,
+    lists: usize,
+    route: usize,
+    history_keys: usize,
+    history_skips: usize,
+) -> usize
+    ensures { λ r. ⌜ r ≡ leastOf (records / 8) (labels / 2 ∷ gaps / 2 ∷ lists / 2 ∷ route ∷ «history_keys» / 2 ∷ «history_skips» / 2 ∷ []) ⌝ }
 {
-    let listing = smaller(lists / 2, route);
+    let histories = smaller(history_keys / 2, history_skips / 2);
+    let listing = smaller(lists / 2, smaller(route, histories));
     let kept = smaller(labels / 2, smaller(gaps / 2, listing));
     smaller(records / 8, kept)
 }

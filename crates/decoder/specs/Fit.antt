@@ -46,9 +46,13 @@ capacityOf m perRecord = leastOf (length (m .records) / 8) (length (m .labels) /
 abbrev pub scratchOf : List Float → (keys places own heads list : List ℕ) → List ℕ
 scratchOf sc ks ps os hs ls = length sc ∷ length ks ∷ length ps ∷ length os ∷ length hs ∷ length ls ∷ []
 
--- the places per record of those that the reading list works in
-abbrev pub perRecordOf : (lists route : List ℕ) → List ℕ
-perRecordOf ls rt = length ls / 2 ∷ length rt ∷ []
+-- the places per record of the two slices that alternatives and the reading list work in
+abbrev pub perHistoryOf : (history-keys history-skips : List ℕ) → List ℕ
+perHistoryOf hs cs = length hs / 2 ∷ length cs / 2 ∷ []
+
+-- and of all that the reading list works in
+abbrev pub perRecordOf : (lists route history-keys history-skips : List ℕ) → List ℕ
+perRecordOf ls rt hs cs = length ls / 2 ∷ length rt ∷ perHistoryOf hs cs
 
 -- the places that are judged: of each store that is kept per state, and of the records
 abbrev pub placesOf : Lent → (scratch perRecord : List ℕ) → (eps : ℕ) → FitPlaces

@@ -131,8 +131,8 @@ module _ {T : Tables} {finals : List Float} {eps : List ℕ} {places : ℕ} {scr
     pub active-left : ActiveLeft tk d
     active-left = record { sums = sm; records = rs; labels = ls; left = finals-left .left }
 
-    pub alternatives-left : (fewer : List ℕ) → ((k : ℕ) → k ∈ fewer → k ∈ scratch) → AlternativesLeft tk sm rs ls finals fewer d
-    alternatives-left fewer f = record { left = finals-left; wide = λ k i. wide-states (lent tk sm rs ls gs) H k (f k i) }
+    pub alternatives-left : (fewer less : List ℕ) → ((k : ℕ) → k ∈ fewer → k ∈ scratch) → ((k : ℕ) → k ∈ less → k ∈ perRecord) → AlternativesLeft tk sm rs ls finals fewer less d
+    alternatives-left fewer less f e = record { left = finals-left; wide = λ k i. wide-states (lent tk sm rs ls gs) H k (f k i); wide-records = λ k i. H .wide-records k (e k i) }
 
     pub readings-left : (fewer less : List ℕ) → ((k : ℕ) → k ∈ fewer → k ∈ scratch) → ((k : ℕ) → k ∈ less → k ∈ perRecord) → ReadingsLeft tk sm rs ls gs finals fewer less d
     readings-left fewer less f e =

@@ -1,6 +1,6 @@
 -- The reading list, of stores that a call has left. Assumes nothing.
 use mathlib.Core.Path.{_≡_, refl, sym, _∙_}
-use Prim.Native.Nat.{ℕ, _-_, _/_}
+use Prim.Native.Nat.{ℕ, _-_, _*_, _/_, _≤_}
 use native.Mathlib.Omega.{arith}
 use mathlib.Core.Bool.{Bool}
 use mathlib.Core.Option.{some}
@@ -20,7 +20,7 @@ use Rattle.reading_list.specs.Outputs.{Outputs, placesIn}
 use Rattle.reading_list.specs.Right.{listAs, ListKeeps, ReadingsRight}
 use Rattle.decoder.specs.declared.Decoder.{Decoder}
 use Rattle.decoder.specs.Represents.{Left}
-use Rattle.decoder.specs.Reads.{asked-is, Wide, LeftOf, finals-long, best-asks}
+use Rattle.decoder.specs.Reads.{asked-is, Wide, LeftOf, histories-wide, finals-long, best-asks}
 
 -- as for a read with final weights, but that the gaps are lent too
 pub record GapsLeft (tk : List ℕ) (sm : List Float) (rs : List ℕ) (ls : List ℤ) (gs finals : List Float) (d : Decoder) : Type 0 where
@@ -86,22 +86,26 @@ module _ {tk : List ℕ} {sm : List Float} {rs : List ℕ} {ls : List ℤ} {gs f
         known = ranks-known (L .g) (f .good) (f .floats) (L .fs) (L .st) (L .is .standing .active) (L .is .finished) finals (F .finals-are) (asks .finals);
       }
 
-  pub readings-asks : (keys places own heads list lists route : ℕ) → Wide (d .graph .states) (keys ∷ places ∷ own ∷ heads ∷ list ∷ []) → Wide (d .cap) (lists / 2 ∷ route ∷ [])
-      → ListingAsks tk sm finals rs ls gs (d .graph .states) (1 - d .side) (d .used) (d .keeps) (d .margin) (scratch keys places own heads list lists route)
-  readings-asks keys places own heads list lists route wide records =
+  pub readings-asks : (keys places own heads list lists route history-keys history-skips : ℕ) → Wide (d .graph .states) (keys ∷ places ∷ own ∷ heads ∷ list ∷ []) → Wide (d .cap) (lists / 2 ∷ route ∷ history-keys / 2 ∷ history-skips / 2 ∷ [])
+      → ListingAsks tk sm finals rs ls gs (d .graph .states) (1 - d .side) (d .used) (d .keeps) (d .margin) (scratch keys places own heads list lists route) × (d .used * 2 ≤ history-keys) × (d .used * 2 ≤ history-skips)
+  readings-asks keys places own heads list lists route history-keys history-skips wide records =
       let u = F .left .is .fits in
-      record {
-        stores = stores-ask;
-        wide = record {
-          keys = wide keys (here refl);
-          places = wide places (there (here refl));
-          own = wide own (there (there (here refl)));
-          heads = wide heads (there (there (there (here refl))));
-          list = wide list (there (there (there (there (here refl)))));
-          lists = let k = records (lists / 2) (here refl) in omega arith;
-          route = let k = records route (there (here refl)) in omega arith;
-        };
-      }
+      let h = histories-wide of history-keys history-skips (λ k i. records k (there (there i))) in (
+        record {
+          stores = stores-ask;
+          wide = record {
+            keys = wide keys (here refl);
+            places = wide places (there (here refl));
+            own = wide own (there (there (here refl)));
+            heads = wide heads (there (there (there (here refl))));
+            list = wide list (there (there (there (there (here refl)))));
+            lists = let k = records (lists / 2) (here refl) in omega arith;
+            route = let k = records route (there (here refl)) in omega arith;
+          };
+        },
+        h .0,
+        h .1,
+      )
 
   pub readings-is : (use-final : Bool) (listed max entries kept : ℕ) (o o' : Outputs) (r : ReadingList)
       → ReadingsRight tk sm finals rs ls gs (d .graph .states) (1 - d .side) (d .used) (d .keeps) (d .margin) (d .frames) use-final listed max entries kept o o' r

@@ -1,6 +1,6 @@
 -- The keep margin, and the reads. Assumes nothing.
 use mathlib.Core.Path.{_≡_, refl, sym, ap, subst}
-use Prim.Native.Nat.{ℕ, _-_, _*_, _≤_}
+use Prim.Native.Nat.{ℕ, _-_, _*_, _/_, _≤_}
 use native.Mathlib.Omega.{arith}
 use mathlib.Core.Bool.{Bool, true, false, cond}
 use mathlib.Core.List.{List, [], _∷_, List·Memᴰ·head as here, List·Memᴰ·tail as there}
@@ -137,6 +137,14 @@ module _ {tk : List ℕ} {sm : List Float} {rs : List ℕ} {ls : List ℤ} {d : 
   unfolding call readAnswer
   active-is r C = ap countAnswer (sym (C .is sm (L .is .h) (d .used) (L .st) (L .is .finished)))
 
+  -- the slices that are kept per record have the places of the records in use
+  pub histories-wide : (keys skips : ℕ) → Wide (d .cap) (keys / 2 ∷ skips / 2 ∷ []) → (d .used * 2 ≤ keys) × (d .used * 2 ≤ skips)
+  histories-wide keys skips wide =
+      let u = L .is .fits in
+      let k = wide (keys / 2) (here refl) in
+      let s = wide (skips / 2) (there (here refl)) in
+      (omega arith, omega arith)
+
   module _ (finals : List Float) (finals-are : L .g .finals ≡ finals) where
     pub finals-long : d .graph .states ≤ length finals
     finals-long = let e = ap length finals-are in let k = L .is .fixed .states-are in omega arith
@@ -205,10 +213,11 @@ abbrev pub BestPathIs : (tk : List ℕ) (sm : List Float) (rs : List ℕ) (ls : 
 BestPathIs tk sm rs ls finals d use-final m m' r =
     (F : FinalsLeft tk sm rs ls finals d) → let L = F .left in (bestAs r m' ≡ call (L .g) (L .c) (L .l) (readCall (bestPathRead use-final (placesOf m))) (L .st) .answer) × BestKeeps r m m'
 
--- a read that works in scratch slices of these lengths
-pub record AlternativesLeft (tk : List ℕ) (sm : List Float) (rs : List ℕ) (ls : List ℤ) (finals : List Float) (scratch : List ℕ) (d : Decoder) : Type 0 where
+-- a read that works in scratch slices of these lengths, and of these places per record
+pub record AlternativesLeft (tk : List ℕ) (sm : List Float) (rs : List ℕ) (ls : List ℤ) (finals : List Float) (scratch perRecord : List ℕ) (d : Decoder) : Type 0 where
   pub left : FinalsLeft tk sm rs ls finals d
   pub wide : Wide (d .graph .states) scratch
+  pub wide-records : Wide (d .cap) perRecord
 
 abbrev pub AlternativesIs : (tk : List ℕ) (sm : List Float) (rs : List ℕ) (ls : List ℤ) (finals : List Float) → Decoder → (use-final : Bool) → (max : ℕ) → (o o' : Outputs) → Listed → Type 0
 AlternativesIs tk sm rs ls finals d use-final max o o' r =

@@ -14,7 +14,7 @@ ghost use Rattle.reading_list.specs.Outputs.{outputs as listOutputs};
 ghost use Rattle.fst.specs.Answer.{graphOf};
 ghost use Rattle.decoder.specs.Represents.{settingOf, Left, FrameLeft};
 ghost use Rattle.decoder.specs.Begin.{movedTo, emptiedOf, turnedOf, BothCleared, BeginAsks, BeginIs};
-ghost use Rattle.decoder.specs.Fit.{perRecordOf, scratchOf, fittedBy, newDecoder, FitIs};
+ghost use Rattle.decoder.specs.Fit.{perHistoryOf, perRecordOf, scratchOf, fittedBy, newDecoder, FitIs};
 ghost use Rattle.decoder.specs.Frame.{NewestIs, BackIs, RunGiven, RunIs, StartIs, FrameIs};
 ghost use Rattle.decoder.specs.Listed.{ReadingsLeft, ReadingsIs};
 ghost use Rattle.decoder.specs.Reads.{withMargin, KeepIs, FramesIs, ActiveLeft, ActiveIs, RelativeLeft, RelativeCostIs, FinalsLeft, BestPathIs, AlternativesLeft, AlternativesIs};
@@ -237,6 +237,8 @@ pub fn fit(
     list: &[u32],
     lists: &[u32],
     route: &[u32],
+    history_keys: &[u64],
+    history_skips: &[u32],
     eps: &mut [u8],
     offsets: &[u32],
     ilabels: &[i32],
@@ -250,7 +252,7 @@ pub fn fit(
     pdfs: u32,
     config: Config,
 ) -> Fitted
-    ensures { λ r. ⌜ FitIs (graphOf (now (offsets .entry)) (now (ilabels .entry)) (now (olabels .entry)) (now (weights .entry)) (now (nextstates .entry)) (now (finals .entry)) (now (tid2pdf .entry)) (now (tid2phone .entry)) start pdfs) (graphTables (now (offsets .entry)) (now (ilabels .entry)) (now (olabels .entry)) (now (weights .entry)) (now (nextstates .entry)) (now (tid2pdf .entry)) (now (tid2phone .entry))) (lent (now (tokens .entry)) (now (sums .entry)) (now (records .entry)) (now (labels .entry)) (now (gaps .entry))) (lent (now (tokens .exit)) (now (sums .exit)) (now (records .exit)) (now (labels .exit)) (now (gaps .exit))) (scratchOf (now (scratch .entry)) (now (keys .entry)) (now (places .entry)) (now (own .entry)) (now (heads .entry)) (now (list .entry))) (perRecordOf (now (lists .entry)) (now (route .entry))) (length (now (queue .entry))) (now (eps .entry)) (now (eps .exit)) config r ⌝ }
+    ensures { λ r. ⌜ FitIs (graphOf (now (offsets .entry)) (now (ilabels .entry)) (now (olabels .entry)) (now (weights .entry)) (now (nextstates .entry)) (now (finals .entry)) (now (tid2pdf .entry)) (now (tid2phone .entry)) start pdfs) (graphTables (now (offsets .entry)) (now (ilabels .entry)) (now (olabels .entry)) (now (weights .entry)) (now (nextstates .entry)) (now (tid2pdf .entry)) (now (tid2phone .entry))) (lent (now (tokens .entry)) (now (sums .entry)) (now (records .entry)) (now (labels .entry)) (now (gaps .entry))) (lent (now (tokens .exit)) (now (sums .exit)) (now (records .exit)) (now (labels .exit)) (now (gaps .exit))) (scratchOf (now (scratch .entry)) (now (keys .entry)) (now (places .entry)) (now (own .entry)) (now (heads .entry)) (now (list .entry))) (perRecordOf (now (lists .entry)) (now (route .entry)) (now («history_keys» .entry)) (now («history_skips» .entry))) (length (now (queue .entry))) (now (eps .entry)) (now (eps .exit)) config r ⌝ }
 {
     match fst::build(
         offsets,
@@ -278,6 +280,8 @@ pub fn fit(
                 gaps.len(),
                 lists.len(),
                 route.len(),
+                history_keys.len(),
+                history_skips.len(),
             );
             if checks::stores_wrong(
                 tokens.len(),
@@ -619,13 +623,15 @@ pub fn alternatives(
     keys: &mut [u64],
     places: &mut [u32],
     own: &mut [u32],
+    history_keys: &mut [u64],
+    history_skips: &mut [u32],
     words: &mut [i32],
     frames: &mut [u32],
     segments: &mut [u32],
     ends: &mut [u32],
     costs: &mut [f32],
 ) -> Listed
-    requires { ⌜ AlternativesLeft (now tokens) (now sums) (now records) (now labels) (now finals) (length (now keys) ∷ length (now places) ∷ length (now own) ∷ []) decoder ⌝ }
+    requires { ⌜ AlternativesLeft (now tokens) (now sums) (now records) (now labels) (now finals) (length (now keys) ∷ length (now places) ∷ length (now own) ∷ []) (perHistoryOf (now «history_keys») (now «history_skips»)) decoder ⌝ }
     ensures { λ r. ⌜ AlternativesIs (now (tokens .entry)) (now (sums .entry)) (now (records .entry)) (now (labels .entry)) (now (finals .entry)) decoder «use_final» max (outputs (now (words .entry)) (now (frames .entry)) (now (segments .entry)) (now (ends .entry)) (now (costs .entry))) (outputs (now (words .exit)) (now (frames .exit)) (now (segments .exit)) (now (ends .exit)) (now (costs .exit))) r ⌝ }
 {
     let finished = 1 - decoder.side;
@@ -644,6 +650,8 @@ pub fn alternatives(
         keys,
         places,
         own,
+        history_keys,
+        history_skips,
         words,
         frames,
         segments,
@@ -671,6 +679,8 @@ pub fn reading_list(
     list: &mut [u32],
     lists: &mut [u32],
     route: &mut [u32],
+    history_keys: &mut [u64],
+    history_skips: &mut [u32],
     entry_hashes: &mut [u64],
     entry_nexts: &mut [u32],
     entry_sums: &mut [f32],
@@ -684,7 +694,7 @@ pub fn reading_list(
     numbers: &mut [u64],
     costs: &mut [f32],
 ) -> ReadingList
-    requires { ⌜ ReadingsLeft (now tokens) (now sums) (now records) (now labels) (now gaps) (now finals) (length (now keys) ∷ length (now places) ∷ length (now own) ∷ length (now heads) ∷ length (now list) ∷ []) (perRecordOf (now lists) (now route)) decoder ⌝ }
+    requires { ⌜ ReadingsLeft (now tokens) (now sums) (now records) (now labels) (now gaps) (now finals) (length (now keys) ∷ length (now places) ∷ length (now own) ∷ length (now heads) ∷ length (now list) ∷ []) (perRecordOf (now lists) (now route) (now «history_keys») (now «history_skips»)) decoder ⌝ }
     ensures { λ r. ⌜ ReadingsIs (now (tokens .entry)) (now (sums .entry)) (now (records .entry)) (now (labels .entry)) (now (gaps .entry)) (now (finals .entry)) decoder «use_final» listed max (entryPlaces (length (now («entry_hashes» .entry))) (length (now («entry_nexts» .entry))) (length (now («entry_sums» .entry)))) (keptPlaces (length (now («kept_hashes» .entry))) (length (now («kept_links» .entry))) (length (now («kept_sums» .entry))) (length (now (keys .entry))) (length (now (order .entry))) (length (now (list .entry)) - decoder .graph .states)) (listOutputs (now (words .entry)) (now (frames .entry)) (now (segments .entry)) (now (numbers .entry)) (now (costs .entry))) (listOutputs (now (words .exit)) (now (frames .exit)) (now (segments .exit)) (now (numbers .exit)) (now (costs .exit))) r ⌝ }
 {
     let side = 1 - decoder.side;
@@ -711,6 +721,8 @@ pub fn reading_list(
         list,
         lists,
         route,
+        history_keys,
+        history_skips,
         entry_hashes,
         entry_nexts,
         entry_sums,

@@ -18,12 +18,18 @@ use Rattle.records.specs.Layout.{store}
 use Rattle.records.specs.Stands.{Stands}
 use Rattle.histories.specs.Reading.{sameReading, KeyIs, SameIs}
 use Rattle.histories.specs.Laws.{same-trans, same-key}
+use Rattle.summaries.specs.Summed.{keyAt as historyKey, Keys}
 use Rattle.sorting.specs.Moves.{Lent}
 use Rattle.sorting.specs.Sorting.{Sorted}
 use Rattle.groups.specs.Places.{earlier, Transitive, firsts-by-place, PlacesSorted, places-sorted, Repeats, repeated, alone, repeats-is, kept-from}
 use Rattle.groups.specs.Firsts.{linkAt, dropped, StateAsks, StatesAsk, sameStates, samePlaces, KeysFilled, RepeatsAsk, RepeatsIs, DropsAsk, DroppedAt, Dropped, KeptAt, notKept, isKept, ClosedUp}
 
 -- ---- the keys
+
+-- read from the table of the records' keys
+pub key-read : {rs : List ℕ} {ls : List ℤ} {used : ℕ} {to-join : Bool} {hs : List ℕ} → Keys rs ls used used hs → {r link key : ℕ} → r ≤ used → link ≡ r → key ≡ historyKey hs to-join link
+    → KeyIs rs ls used r to-join key
+key-read {to-join = to-join} K {r} l a b = rw (b, a) (K .each to-join r l)
 
 pub record FilledTo (tk rs : List ℕ) (ls : List ℤ) (b used : ℕ) (to-join : Bool) (order ks₀ ps₀ ks ps : List ℕ) (i : ℕ) : Type 0 where
   pub keys-length : length ks ≡ length ks₀

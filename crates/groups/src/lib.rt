@@ -3,6 +3,7 @@ ghost use mathlib.Core.Path.{_≡_};
 ghost use Prim.Native.Nat.{_≤_, _<_};
 ghost use mathlib.Core.Bool.{cond};
 ghost use lib.ListN.{length, set};
+ghost use Rattle.summaries.specs.Summed.{Keys, Skips};
 ghost use Rattle.groups.specs.Firsts.{StatesAsk, KeysFilled, RepeatsAsk, RepeatsIs, DropsAsk, dropped, Dropped, KeptAt, ClosedUp, FirstsIs};
 use fst::NO_STATE;
 
@@ -13,18 +14,19 @@ pub fn fill_keys(
     labels: &[i32],
     side: u32,
     used: u32,
+    history_keys: &[u64],
     to_join: bool,
     order: &[u32],
     n: usize,
     keys: &mut [u64],
     places: &mut [u32],
 )
-    requires { ⌜ (StatesAsk (now tokens) (now records) (now labels) side used (now order) n) × (n ≤ length (now keys)) × (n ≤ length (now places)) ⌝ }
+    requires { ⌜ (StatesAsk (now tokens) (now records) (now labels) side used (now order) n) × (n ≤ length (now keys)) × (n ≤ length (now places)) × (Keys (now records) (now labels) used used (now «history_keys»)) ⌝ }
     ensures { λ _. ⌜ KeysFilled (now (tokens .entry)) (now (records .entry)) (now (labels .entry)) side used «to_join» (now (order .entry)) n (now (keys .exit)) (now (places .exit)) ⌝ }
 {
     for i in 0..n {
         let link = tokens::link_at(tokens, side, order[i]);
-        keys[i] = histories::reading_key(records, labels, used, link, to_join);
+        keys[i] = summaries::key_at(history_keys, link, to_join);
         places[i] = i as u32;
     }
 }
@@ -36,13 +38,14 @@ fn repeats(
     labels: &[i32],
     side: u32,
     used: u32,
+    history_skips: &[u32],
     to_join: bool,
     order: &[u32],
     keys: &[u64],
     places: &[u32],
     j: usize,
 ) -> bool
-    requires { ⌜ RepeatsAsk (now tokens) (now records) (now labels) side used (now order) (now keys) (now places) j ⌝ }
+    requires { ⌜ (RepeatsAsk (now tokens) (now records) (now labels) side used (now order) (now keys) (now places) j) × (Skips (now records) (now labels) used used (now «history_skips»)) ⌝ }
     ensures { λ r. ⌜ RepeatsIs (now (tokens .entry)) (now (records .entry)) (now (labels .entry)) side used «to_join» (now (order .entry)) (now (keys .entry)) (now (places .entry)) j r ⌝ }
 {
     let link = tokens::link_at(tokens, side, order[places[j] as usize]);
@@ -53,7 +56,7 @@ fn repeats(
         }
         i -= 1;
         let other = tokens::link_at(tokens, side, order[places[i] as usize]);
-        if histories::same_reading(records, labels, used, link, other, to_join) {
+        if summaries::same_at(records, labels, used, history_skips, link, other, to_join) {
             return true;
         }
     }
@@ -76,13 +79,14 @@ fn drop_repeats(
     labels: &[i32],
     side: u32,
     used: u32,
+    history_skips: &[u32],
     to_join: bool,
     order: &mut [u32],
     n: usize,
     keys: &[u64],
     places: &[u32],
 )
-    requires { ⌜ DropsAsk (now tokens) (now records) (now labels) side used (now order) n (now keys) (now places) ⌝ }
+    requires { ⌜ (DropsAsk (now tokens) (now records) (now labels) side used (now order) n (now keys) (now places)) × (Skips (now records) (now labels) used used (now «history_skips»)) ⌝ }
     ensures { λ _. ⌜ Dropped (now (tokens .entry)) (now (records .entry)) (now (labels .entry)) side used «to_join» (now (order .entry)) (now (order .exit)) n (now (keys .entry)) (now (places .entry)) ⌝ }
 {
     let mut j = n;
@@ -94,6 +98,7 @@ fn drop_repeats(
             labels,
             side,
             used,
+            history_skips,
             to_join,
             order,
             keys,
@@ -136,13 +141,15 @@ pub fn firsts(
     labels: &[i32],
     side: u32,
     used: u32,
+    history_keys: &[u64],
+    history_skips: &[u32],
     to_join: bool,
     order: &mut [u32],
     n: usize,
     keys: &mut [u64],
     places: &mut [u32],
 ) -> usize
-    requires { ⌜ (StatesAsk (now tokens) (now records) (now labels) side used (now order) n) × (n ≤ length (now keys)) × (n ≤ length (now places)) ⌝ }
+    requires { ⌜ (StatesAsk (now tokens) (now records) (now labels) side used (now order) n) × (n ≤ length (now keys)) × (n ≤ length (now places)) × (Keys (now records) (now labels) used used (now «history_keys»)) × (Skips (now records) (now labels) used used (now «history_skips»)) ⌝ }
     ensures { λ m. ⌜ FirstsIs (now (tokens .entry)) (now (records .entry)) (now (labels .entry)) side used «to_join» (now (order .entry)) (now (order .exit)) n m ⌝ }
 {
     fill_keys(
@@ -151,6 +158,7 @@ pub fn firsts(
         labels,
         side,
         used,
+        history_keys,
         to_join,
         order,
         n,
@@ -164,6 +172,7 @@ pub fn firsts(
         labels,
         side,
         used,
+        history_skips,
         to_join,
         order,
         n,

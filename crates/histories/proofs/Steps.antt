@@ -2,8 +2,8 @@
 use mathlib.Core.Path.{_≡_, refl, sym, ap, ap₂, _∙_}
 use Prim.Native.Nat.{ℕ, zero, suc, _+_, _-_, _*_, _%_, _^_, _≤_, _<_}
 use native.Mathlib.Omega.{arith}
-use native.Mathlib.Nat.{add-zero, zero-add, mod-add-mod}
-use mathlib.Core.Bool.{Bool, true, false, not}
+use native.Mathlib.Nat.{add-zero, zero-add}
+use mathlib.Core.Bool.{true, false, not}
 use mathlib.Core.List.{List, [], _∷_}
 use lib.IntN.{ℤ, pos, negsuc, natAbs}
 use lib.Signed.{ltZ, nonNeg, mag}
@@ -13,75 +13,29 @@ use lib.Ieee.{Float}
 use mir.Syntax.{w32}
 use mir.Val.{Fits, SFits, toZ, ofZ}
 use mir.ValLaws.{toZ-pos}
-use borrow.Author.Tests.{eq-eqb, ne-eqb, le-ltb}
+use borrow.Author.Tests.{ne-eqb, le-ltb}
 use Rattle.lists.specs.Tests.{never}
 use Rattle.model.specs.Basics.{nonzero, unsigned}
 use Rattle.model.specs.Ints.{nonzero-yes, nonzero-no}
 use Rattle.model.specs.Hash.{hash-base, hashNewestFirst, newest-first}
 use Rattle.records.specs.History.{History, tag}
-use Rattle.records.specs.Layout.{Rec, Store, store, recAt, isLinkRec, prevAt, wordAt}
-use Rattle.records.specs.Stands.{Stands, topBy}
-use Rattle.joins.specs.Walk.{wordsTo, NextWord, SameWords}
+use Rattle.records.specs.Layout.{Store, store, prevAt, wordAt}
+use Rattle.records.specs.Stands.{Stands}
+use Rattle.joins.specs.Walk.{wordsTo, NextWord}
 use Rattle.histories.specs.declared.Hashed.{Hashed}
-use Rattle.histories.specs.Reading.{joinTag, endTag, sameReading, EndIs, isJoinAt, hashed, older, newer, HashIs, keyOf, SameIs}
-use Rattle.histories.specs.Laws.{tag-one, end-words}
+use Rattle.histories.specs.Reading.{joinTag, hashed, older, newer, HashIs}
 
 -- ---- down to the newest join
-
-module _ (c : Rec) (m : ℕ) (t q : History) where
-  top-join : (b : Bool) → not b ≡ true → joinTag (topBy b c m t q) ≡ tag (topBy b c m t q)
-  unfolding joinTag tag
-  top-join true e = never e
-  top-join false e = refl
-
-  top-link : (b : Bool) → not b ≡ false → joinTag (topBy b c m t q) ≡ joinTag t
-  unfolding joinTag
-  top-link true e = refl
-  top-link false e = never (sym e)
-
-module _ {rs : List ℕ} {ls : List ℤ} {gs : List Float} {n : ℕ} {h : ℕ → History} (ok : Stands (store rs ls gs) n h) (k : ℕ) {r : ℕ} (e : r ≡ suc k) (l : k < n) where
-  pub join-at : isJoinAt rs ls k ≡ true → joinTag (h r) ≡ tag (h r)
-  unfolding recAt
-  join-at j = let c = recAt (store rs ls gs) k in rw (e, ok .each k l .is) (top-join c (ok .each k l .number) (h (c .prev)) (h (c .kept)) (isLinkRec c) j)
-
-  pub link-at : isJoinAt rs ls k ≡ false → joinTag (h r) ≡ joinTag (h (prevAt rs k))
-  unfolding recAt
-  link-at j = let c = recAt (store rs ls gs) k in rw (e, ok .each k l .is) (top-link c (ok .each k l .number) (h (c .prev)) (h (c .kept)) (isLinkRec c) j)
 
 -- below the first record
 pub at-start : {s : Store} {n : ℕ} {h : ℕ → History} → Stands s n h → {r : ℕ} → r ≡ 0 → joinTag (h r) ≡ tag (h r)
 unfolding joinTag tag
 at-start ok e = rw (e, ok .none)
 
-pub start-end : {rs : List ℕ} {ls : List ℤ} {n : ℕ} (r : ℕ) → EndIs rs ls n r false 0
-unfolding tag
-start-end r = record { low = omega arith; is = λ gs h ok. rw (ok .none) }
-
 -- a phone of 0 is none
 pub zero-pos : (n : ℕ) → eqb n 0 ≡ not (nonzero (pos n))
 zero-pos zero = refl
 zero-pos (suc n) = ne-eqb (suc n) 0 (λ e. omega arith)
-
--- ---- two histories
-
-module _ {rs : List ℕ} {ls : List ℤ} {n a b : ℕ} {to-join : Bool} where
-  pub ends-apart : {d e : ℕ} → EndIs rs ls n a to-join d → EndIs rs ls n b to-join e → a ≤ n → b ≤ n → (d ≡ e → ⊥) → SameIs rs ls n a b to-join false
-  unfolding sameReading
-  ends-apart {d} {e} D E l m u =
-      record {
-        is = λ gs h ok.
-            let t = ne-eqb (endTag to-join (h a)) (endTag to-join (h b)) (λ q. u (tag-one ok d e (omega (arith, D .low)) (omega (arith, E .low)) (D .is gs h ok ∙ q ∙ sym (E .is gs h ok)))) in
-            rw t;
-      }
-
-  pub ends-one : {d e : ℕ} {r : Bool} → EndIs rs ls n a to-join d → EndIs rs ls n b to-join e → d ≡ e → SameWords rs ls n a b (pos 0) d r → SameIs rs ls n a b to-join r
-  unfolding sameReading
-  ends-one {d} {e} D E q S =
-      record {
-        is = λ gs h ok.
-            let t = eq-eqb (endTag to-join (h a)) (endTag to-join (h b)) (sym (D .is gs h ok) ∙ ap (λ (k : ℕ). tag (h k)) q ∙ E .is gs h ok) in
-            S .is gs h ok ∙ rw (t, ← (end-words gs h ok D), ← (end-words gs h ok E), q);
-      }
 
 -- ---- an i32 as a u32
 
@@ -178,7 +132,3 @@ module _ {rs : List ℕ} {ls : List ℤ} {n link m : ℕ} where
   pub hashing-end : {x : Hashed} {r : ℕ} → Hashing rs ls n link m x r → r ≤ m → HashIs rs ls n link m x
   unfolding olderAll
   hashing-end {x} H l = record { low = H .high; is = λ gs h ok. sym (ap (olderAll x) (H .next .none l gs h ok)) ∙ H .is gs h ok }
-
--- the key, as the code makes it
-pub key-of : {x : Hashed} {m k : ℕ} (e : ℕ) (ws : List ℤ) → x ≡ hashed ws → m ≡ (e * x .shift) % 2 ^ 64 → k ≡ (m + x .hash) % 2 ^ 64 → k ≡ keyOf e ws
-key-of {x} e ws a b c = c ∙ ap (λ (z : ℕ). (z + x .hash) % 2 ^ 64) b ∙ mod-add-mod (e * x .shift) (2 ^ 64) (x .hash) ∙ ap (λ (y : Hashed). (e * y .shift + y .hash) % 2 ^ 64) a

@@ -11,20 +11,20 @@ use lib.Dec.{eqb}
 use lib.ListN.{length}
 use lib.Ieee.{Float}
 use borrow.Author.Tests.{eqb-true, eq-eqb, ne-eqb, lt-ltb, le-ltb}
-use Rattle.lists.specs.Tests.{case, either, lt-or-le, eq-or-not, and-both, or-neither}
+use Rattle.lists.specs.Tests.{case, either, lt-or-le, eq-or-not, and-both, or-neither, never}
 use Rattle.model.specs.Basics.{nonzero, unsigned}
 use Rattle.model.specs.Ints.{sameWords-true, sameWords-refl}
 use Rattle.model.specs.Path.{Path, emptyPath, arcOn, branchOn, isLink, word, withWord, wordsBack, sameWords}
 use Rattle.model.specs.Hash.{hash-base, hashWord, hashWords, shiftPast}
 use Rattle.model.specs.Readings.{joinNumber, wordsToJoin}
 use Rattle.records.specs.History.{History, noHistory, linkOn, joinOn, tag, historyOf, plain, history-link, history-quiet}
-use Rattle.records.specs.Layout.{Store, store, recAt, isLinkRec}
+use Rattle.records.specs.Layout.{Rec, Store, store, recAt, isLinkRec, prevAt}
 use Rattle.records.specs.Stands.{Stands, topBy}
 use Rattle.joins.specs.Worth.{wordsOf, aboveOf}
 use Rattle.joins.specs.Walk.{under, wordsTo}
 use Rattle.joins.specs.Fresh.{tag-each}
 use Rattle.joins.specs.Paths.{own-arc, plain-rest, words-are}
-use Rattle.histories.specs.Reading.{joinTag, endTag, readWords, sameReading, EndIs, hashed, newer, keyOf, KeyIs}
+use Rattle.histories.specs.Reading.{joinTag, endTag, readWords, sameReading, EndIs, isJoinAt, hashed, newer, keyOf, KeyIs}
 
 -- ---- the same reading
 
@@ -73,6 +73,28 @@ module _ {rs : List ℕ} {ls : List ℤ} {n : ℕ} {to-join : Bool} (gs : List F
       let t = tag-one ok (A .e) (B .e) (omega (arith, E .low)) (omega (arith, F .low)) (E .is gs h ok ∙ g .0 ∙ sym (F .is gs h ok)) in
       let w = end-words E ∙ g .1 ∙ sym (end-words F) in
       A .is gs h ok ∙ ap₂ keyOf t w ∙ sym (B .is gs h ok)
+
+-- ---- one record more
+
+module _ (c : Rec) (m : ℕ) (t q : History) where
+  top-join : (b : Bool) → not b ≡ true → joinTag (topBy b c m t q) ≡ tag (topBy b c m t q)
+  unfolding joinTag tag
+  top-join true e = never e
+  top-join false e = refl
+
+  top-link : (b : Bool) → not b ≡ false → joinTag (topBy b c m t q) ≡ joinTag t
+  unfolding joinTag
+  top-link true e = refl
+  top-link false e = never (sym e)
+
+module _ {rs : List ℕ} {ls : List ℤ} {gs : List Float} {n : ℕ} {h : ℕ → History} (ok : Stands (store rs ls gs) n h) (k : ℕ) {r : ℕ} (e : r ≡ suc k) (l : k < n) where
+  pub join-at : isJoinAt rs ls k ≡ true → joinTag (h r) ≡ tag (h r)
+  unfolding recAt
+  join-at j = let c = recAt (store rs ls gs) k in rw (e, ok .each k l .is) (top-join c (ok .each k l .number) (h (c .prev)) (h (c .kept)) (isLinkRec c) j)
+
+  pub link-at : isJoinAt rs ls k ≡ false → joinTag (h r) ≡ joinTag (h (prevAt rs k))
+  unfolding recAt
+  link-at j = let c = recAt (store rs ls gs) k in rw (e, ok .each k l .is) (top-link c (ok .each k l .number) (h (c .prev)) (h (c .kept)) (isLinkRec c) j)
 
 -- ---- what a path's history reads
 

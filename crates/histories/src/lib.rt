@@ -1,16 +1,16 @@
-// What histories read: their words down to the newest join, or down to the start; the hash of these words, and whether two histories read the same.
+// What histories read: their words down to the newest join, or down to the start, and the hash of these words.
 ghost use mathlib.Core.Path.{_≡_};
 ghost use Prim.Native.Nat.{_-_, _*_, _≤_, _<_, _^_};
 ghost use mathlib.Core.Bool.{true};
 ghost use lib.ListN.{length};
 ghost use Rattle.model.specs.Basics.{unsigned};
 ghost use Rattle.joins.specs.Walk.{Chains};
-ghost use Rattle.histories.specs.Reading.{isJoinAt, older, newer, EndIs, HashIs, KeyIs, SameIs};
+ghost use Rattle.histories.specs.Reading.{isJoinAt, older, newer, EndIs, HashIs};
 use wrapping::wrapping_mul;
 
 const HASH_BASE: u64 = 0x9e37_79b9_7f4a_7c15;
 
-fn is_join(records: &[u32], labels: &[i32], r: u32) -> bool
+pub fn is_join(records: &[u32], labels: &[i32], r: u32) -> bool
     requires { ⌜ (0 < r) × (r * 8 ≤ length (now records)) × (r * 2 ≤ length (now labels)) ⌝ }
     ensures { λ b. ⌜ b ≡ isJoinAt (now (records .entry)) (now (labels .entry)) (r - 1) ⌝ }
 {
@@ -21,7 +21,7 @@ fn is_join(records: &[u32], labels: &[i32], r: u32) -> bool
 }
 
 // The newest join from a record on, 0 for none.
-fn first_join(records: &[u32], labels: &[i32], used: u32, link: u32) -> u32
+pub fn first_join(records: &[u32], labels: &[i32], used: u32, link: u32) -> u32
     requires { ⌜ (Chains (now records) (now labels) used) × (link ≤ used) ⌝ }
     ensures { λ e. ⌜ EndIs (now (records .entry)) (now (labels .entry)) used link true e ⌝ }
 {
@@ -33,17 +33,6 @@ fn first_join(records: &[u32], labels: &[i32], used: u32, link: u32) -> u32
         r = records::prev_of(records, r);
     }
     r
-}
-
-// How far down a history is read: to its newest join, or to the start.
-pub fn end_of(records: &[u32], labels: &[i32], used: u32, link: u32, to_join: bool) -> u32
-    requires { ⌜ (Chains (now records) (now labels) used) × (link ≤ used) ⌝ }
-    ensures { λ e. ⌜ EndIs (now (records .entry)) (now (labels .entry)) used link «to_join» e ⌝ }
-{
-    if to_join {
-        return first_join(records, labels, used, link);
-    }
-    0
 }
 
 // An i32 read as a u32.
@@ -106,33 +95,4 @@ pub fn with_word(h: Hashed, word: i32) -> Hashed
         shift: wrapping_mul(h.shift, HASH_BASE),
         len: h.len + 1,
     }
-}
-
-// Histories that read the same have one key.
-pub fn reading_key(records: &[u32], labels: &[i32], used: u32, link: u32, to_join: bool) -> u64
-    requires { ⌜ (Chains (now records) (now labels) used) × (link ≤ used) ⌝ }
-    ensures { λ k. ⌜ KeyIs (now (records .entry)) (now (labels .entry)) used link «to_join» k ⌝ }
-{
-    let end = end_of(records, labels, used, link, to_join);
-    let h = hash_above(records, labels, used, link, end);
-    std::num::wrapping_add_u64(wrapping_mul(end as u64, h.shift), h.hash)
-}
-
-// Whether two histories read the same words, and where they are read to a join, the same join.
-pub fn same_reading(
-    records: &[u32],
-    labels: &[i32],
-    used: u32,
-    a: u32,
-    b: u32,
-    to_join: bool,
-) -> bool
-    requires { ⌜ (Chains (now records) (now labels) used) × (a ≤ used) × (b ≤ used) ⌝ }
-    ensures { λ r. ⌜ SameIs (now (records .entry)) (now (labels .entry)) used a b «to_join» r ⌝ }
-{
-    let end = end_of(records, labels, used, a, to_join);
-    if end != end_of(records, labels, used, b, to_join) {
-        return false;
-    }
-    joins::same_above(records, labels, used, a, b, end)
 }

@@ -112,9 +112,13 @@ abbrev pub bestWithin : Float → Best → Bool
 bestWithin bound Nobody = false
 bestWithin bound (Token c) = not (bound ≼ c .rank)
 
+-- a kept reading of its token can rank below the bound
+abbrev pub mayRank : List ℕ → (sm fs : List Float) → (side : ℕ) → (counts : Bool) → (bound : Float) → (s : ℕ) → Bool
+mayRank tk sm fs b counts bound s = counts || bestWithin bound (candidateAt tk sm fs b s counts)
+
 -- it has a join, and where finals do not count it ranks below the bound
 abbrev pub isHead : (ℕ → History) → List ℕ → (sm fs : List Float) → (side : ℕ) → (counts : Bool) → (bound : Float) → (s : ℕ) → Bool
-isHead h tk sm fs b counts bound s = ltb 0 (joinTag (h (linkAt tk b s))) && (counts || bestWithin bound (candidateAt tk sm fs b s counts))
+isHead h tk sm fs b counts bound s = ltb 0 (joinTag (h (linkAt tk b s))) && mayRank tk sm fs b counts bound s
 
 pub record StateAsks (tk : List ℕ) (sm fs : List Float) (b used s : ℕ) : Type 0 where
   pub tokens : s * 8 + 8 ≤ length tk

@@ -2,14 +2,16 @@
 use mathlib.Core.Path.{_≡_, refl, sym, ap, ap₂, _∙_, subst}
 use Prim.Native.Nat.{ℕ, zero, suc, _+_, _-_, _≤_, _<_}
 use native.Mathlib.Omega.{arith}
-use mathlib.Core.Bool.{Bool, true, false, _&&_, _||_, cond}
+use mathlib.Core.Bool.{Bool, true, false, not, _&&_, cond}
 use mathlib.Core.List.{List, [], _∷_, _++_, map}
 use lib.IntN.{ℤ}
+use lib.Dec.{ltb, eqb}
 use lib.ListN.{length, getD, take, set, length-set}
 use lib.Seq.{getD-set-same, getD-set-other}
 use lib.Ieee.{Float}
-use borrow.Author.Tests.{lt-ltb, le-ltb}
+use borrow.Author.Tests.{lt-ltb, le-ltb, eq-eqb, ne-eqb}
 use Rattle.lists.specs.Lists.{keepIf, range}
+use Rattle.lists.specs.Tests.{case, eq-or-not}
 use Rattle.records.specs.History.{History, tag}
 use Rattle.records.specs.Layout.{store}
 use Rattle.records.specs.Stands.{Stands}
@@ -24,7 +26,7 @@ use Rattle.entries.specs.Entries.{entryAt}
 use Rattle.below.specs.Stored.{firstAt, countAt}
 use Rattle.kept_readings.specs.declared.KeptReading.{KeptReading}
 use Rattle.kept_readings.specs.Kept.{Room, Added, ranksBelow, within}
-use Rattle.kept_readings.specs.Heads.{keptBy, keptFrom, keptUnder, EntriesAsk, HeadAsks, HeadKept, HeadAdded, HeadsKept, noHeads, headOn, FillIs, bestWithin, IsHeadIs, KeptIf, notKept, isKept}
+use Rattle.kept_readings.specs.Heads.{keptBy, keptFrom, keptUnder, EntriesAsk, HeadAsks, HeadKept, HeadAdded, HeadsKept, noHeads, headOn, FillIs, mayRank, IsHeadIs, KeptIf, notKept, isKept}
 use Rattle.kept_readings.specs.Laws.{added-none, added-then, added-short}
 
 -- the slices keep their lengths
@@ -192,23 +194,33 @@ end-tag : {rs : List ℕ} {ls : List ℤ} {used l e : ℕ} (k : ℕ) → l ≡ k
 end-tag k at E gs h ok = E .is gs h ok ∙ ap (λ (k : ℕ). joinTag (h k)) at
 
 module _ {tk : List ℕ} {sm fs : List Float} {rs : List ℕ} {ls : List ℤ} {b used : ℕ} {counts : Bool} {bound : Float} {s l e : ℕ} (at : l ≡ linkAt tk b s) (E : EndIs rs ls used l true e) where
-  pub no-head : e ≡ 0 → IsHeadIs tk sm fs rs ls b used counts bound s false
+  no-head : e ≡ 0 → IsHeadIs tk sm fs rs ls b used counts bound s false
   unfolding tag
   no-head z =
       record {
         is = λ gs h ok.
             let q : joinTag (h (linkAt tk b s)) ≡ 0 = sym (end-tag (linkAt tk b s) at E gs h ok) ∙ ap (λ (k : ℕ). tag (h k)) z ∙ ap tag (ok .none) in
-            ap (λ (x : Bool). x && (counts || bestWithin bound (candidateAt tk sm fs b s counts))) (sym (le-ltb 0 (joinTag (h (linkAt tk b s))) (omega arith)));
+            ap (λ (x : Bool). x && mayRank tk sm fs b counts bound s) (sym (le-ltb 0 (joinTag (h (linkAt tk b s))) (omega arith)));
       }
 
-  pub is-head : linkAt tk b s ≤ used → (e ≡ 0 → ⊥) → (r : Bool) → r ≡ (counts || bestWithin bound (candidateAt tk sm fs b s counts)) → IsHeadIs tk sm fs rs ls b used counts bound s r
-  is-head low d r q =
+  a-head : linkAt tk b s ≤ used → (e ≡ 0 → ⊥) → mayRank tk sm fs b counts bound s ≡ true → IsHeadIs tk sm fs rs ls b used counts bound s true
+  a-head low d q =
       record {
         is = λ gs h ok.
             let w = end-tag (linkAt tk b s) at E gs h ok in
             let a = ok .ascends 0 e (omega arith) (let y = E .low in omega arith) in
-            q ∙ ap (λ (x : Bool). x && (counts || bestWithin bound (candidateAt tk sm fs b s counts))) (sym (lt-ltb 0 (joinTag (h (linkAt tk b s))) (omega arith)));
+            sym q ∙ ap (λ (x : Bool). x && mayRank tk sm fs b counts bound s) (sym (lt-ltb 0 (joinTag (h (linkAt tk b s))) (omega arith)));
       }
+
+  pub is-head : linkAt tk b s ≤ used → mayRank tk sm fs b counts bound s ≡ true → IsHeadIs tk sm fs rs ls b used counts bound s (not (eqb e 0))
+  is-head low q = case (eq-or-not e 0) (λ z. rw (eq-eqb e 0 z) (no-head z)) (λ d. rw (ne-eqb e 0 d) (a-head low d q))
+
+pub cannot-rank : {tk : List ℕ} {sm fs : List Float} {rs : List ℕ} {ls : List ℤ} {b used : ℕ} {counts : Bool} {bound : Float} {s : ℕ} → mayRank tk sm fs b counts bound s ≡ false → IsHeadIs tk sm fs rs ls b used counts bound s false
+cannot-rank {tk} {b = b} {s = s} e = record { is = λ gs h ok. rw e (neither (ltb 0 (joinTag (h (linkAt tk b s))))) }
+  where
+    neither : (x : Bool) → false ≡ (x && false)
+    neither true = refl
+    neither false = refl
 
 -- ---- keeping them
 

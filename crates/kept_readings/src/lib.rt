@@ -10,7 +10,7 @@ ghost use Rattle.model.specs.Reads.{graph-scale};
 ghost use Rattle.joins.specs.Walk.{Chains};
 ghost use Rattle.entries.specs.Entries.{entryAt, Room as EntryRoom};
 ghost use Rattle.kept_readings.specs.Kept.{keptIn, Room, sameKept, soonerKept, soonerOf, KeptPut, FoundAt, Added, within};
-ghost use Rattle.kept_readings.specs.Heads.{keptBy, keptFrom, EntriesAsk, HeadAsks, HeadAdded, FillAsks, FillIs, bestWithin, StateAsks, IsHeadIs, KeptIf, HeadsAsk, HeadsAre};
+ghost use Rattle.kept_readings.specs.Heads.{keptBy, keptFrom, EntriesAsk, HeadAsks, HeadAdded, FillAsks, FillIs, bestWithin, mayRank, StateAsks, IsHeadIs, KeptIf, HeadsAsk, HeadsAre};
 use entries::Entry;
 use histories::Hashed;
 use traceback::Best;
@@ -266,7 +266,7 @@ fn add_head(
     ensures { λ r. ⌜ HeadAdded (now (tokens .entry)) (now (sums .entry)) (now (finals .entry)) (now (records .entry)) (now (labels .entry)) side used counts bound (now (lists .entry)) (now (hashes .entry)) (now (nexts .entry)) (now (costs .entry)) s (now («kept_hashes» .entry)) (now («kept_links» .entry)) (now («kept_sums» .entry)) n places (now («kept_hashes» .exit)) (now («kept_links» .exit)) (now («kept_sums» .exit)) r ⌝ }
 {
     let link = tokens::link_at(tokens, side, s);
-    let join = histories::end_of(records, labels, used, link, true);
+    let join = histories::first_join(records, labels, used, link);
     let above = histories::hash_above(records, labels, used, link, join);
     match traceback::candidate_at(tokens, sums, finals, side, s, counts) {
         Best::Nobody => n,
@@ -355,6 +355,29 @@ fn best_within(bound: f32, best: Best) -> bool
     }
 }
 
+// Whether a kept reading of the state's token can rank below the bound. Where finals count, a graph sum may take more off a rank than a gap adds, so that any can.
+fn may_rank(
+    tokens: &[u32],
+    sums: &[f32],
+    finals: &[f32],
+    side: u32,
+    counts: bool,
+    bound: f32,
+    s: u32,
+) -> bool
+    requires { ⌜ (side ≤ 1) × (s * 8 + 8 ≤ length (now tokens)) × (s * 4 + 4 ≤ length (now sums)) × (s < length (now finals)) ⌝ }
+    ensures { λ r. ⌜ r ≡ mayRank (now (tokens .entry)) (now (sums .entry)) (now (finals .entry)) side counts bound s ⌝ }
+{
+    if counts {
+        return true;
+    }
+    best_within(
+        bound,
+        traceback::candidate_at(tokens, sums, finals, side, s, counts),
+    )
+}
+
+// The walk to the newest join comes last, since few states need it.
 fn is_head(
     tokens: &[u32],
     sums: &[f32],
@@ -370,17 +393,11 @@ fn is_head(
     requires { ⌜ (side ≤ 1) × (Chains (now records) (now labels) used) × (StateAsks (now tokens) (now sums) (now finals) side used s) ⌝ }
     ensures { λ r. ⌜ IsHeadIs (now (tokens .entry)) (now (sums .entry)) (now (finals .entry)) (now (records .entry)) (now (labels .entry)) side used counts bound s r ⌝ }
 {
-    let link = tokens::link_at(tokens, side, s);
-    if histories::end_of(records, labels, used, link, true) == 0 {
+    if !may_rank(tokens, sums, finals, side, counts, bound, s) {
         return false;
     }
-    if counts {
-        return true;
-    }
-    best_within(
-        bound,
-        traceback::candidate_at(tokens, sums, finals, side, s, counts),
-    )
+    let link = tokens::link_at(tokens, side, s);
+    histories::first_join(records, labels, used, link) != 0
 }
 
 // Puts a state behind the first m, if it is kept: how many there are then.

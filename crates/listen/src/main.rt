@@ -122,6 +122,8 @@ fn listen(
     let list = [0u32; 4];
     let lists = [0u32; 64];
     let route = [0u32; 32];
+    let history_keys = [0u64; 64];
+    let history_skips = [0u32; 64];
     let mut eps = [0u8; 4];
     match decoder::fit(
         &mut tokens,
@@ -138,6 +140,8 @@ fn listen(
         &list,
         &lists,
         &route,
+        &history_keys,
+        &history_skips,
         &mut eps,
         offsets,
         ilabels,

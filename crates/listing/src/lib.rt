@@ -4,6 +4,7 @@ ghost use mathlib.Core.Bool.{true, _&&_};
 ghost use Prim.Native.Nat.{_-_, _≤_, _<_};
 ghost use lib.Dec.{ltb};
 ghost use lib.ListN.{length};
+ghost use Rattle.summaries.specs.Summed.{Keys, Summed};
 ghost use Rattle.merged.specs.Items.{keptFirst};
 ghost use Rattle.listing_laws.specs.Whole.{sameTest};
 ghost use Rattle.listing.specs.Places.{least, entryPlaces, keptPlaces};
@@ -84,13 +85,15 @@ fn list_own(
     states: u32,
     side: u32,
     used: u32,
+    history_keys: &[u64],
+    history_skips: &[u32],
     counts: bool,
     keys: &mut [u64],
     places: &mut [u32],
     own: &mut [u32],
     heads: &mut [u32],
 ) -> Ranked
-    requires { ⌜ OwnListAsks (now tokens) (now sums) (now finals) (now records) (now labels) states side used (length (now keys)) (length (now places)) (length (now own)) (length (now heads)) ⌝ }
+    requires { ⌜ (OwnListAsks (now tokens) (now sums) (now finals) (now records) (now labels) states side used (length (now keys)) (length (now places)) (length (now own)) (length (now heads))) × (Summed (now records) (now labels) used (now «history_keys») (now «history_skips»)) ⌝ }
     ensures { λ r. ⌜ OwnListed (now (tokens .entry)) (now (sums .entry)) (now (finals .entry)) (now (records .entry)) (now (labels .entry)) side states used counts (now (heads .exit)) (now (own .exit)) r ⌝ }
 {
     let all = ranking::ranked(tokens, sums, finals, states, side, counts, keys, heads);
@@ -101,6 +104,8 @@ fn list_own(
         labels,
         side,
         used,
+        history_keys,
+        history_skips,
         false,
         own,
         all,
@@ -125,6 +130,8 @@ fn list_heads(
     labels: &[i32],
     side: u32,
     used: u32,
+    history_keys: &[u64],
+    history_skips: &[u32],
     counts: bool,
     bound: f32,
     heads: &mut [u32],
@@ -132,7 +139,7 @@ fn list_heads(
     keys: &mut [u64],
     places: &mut [u32],
 ) -> usize
-    requires { ⌜ HeadsListAsks (now tokens) (now sums) (now finals) (now records) (now labels) side used (now heads) n (length (now keys)) (length (now places)) ⌝ }
+    requires { ⌜ (HeadsListAsks (now tokens) (now sums) (now finals) (now records) (now labels) side used (now heads) n (length (now keys)) (length (now places))) × (Summed (now records) (now labels) used (now «history_keys») (now «history_skips»)) ⌝ }
     ensures { λ m. ⌜ HeadsListed (now (tokens .entry)) (now (sums .entry)) (now (finals .entry)) (now (records .entry)) (now (labels .entry)) side used counts bound (now (heads .entry)) (now (heads .exit)) n m ⌝ }
 {
     let m = groups::firsts(
@@ -141,6 +148,8 @@ fn list_heads(
         labels,
         side,
         used,
+        history_keys,
+        history_skips,
         true,
         heads,
         n,
@@ -173,6 +182,8 @@ fn find_kept(
     states: u32,
     side: u32,
     used: u32,
+    history_keys: &[u64],
+    history_skips: &[u32],
     counts: bool,
     margin: f32,
     listed: usize,
@@ -190,7 +201,7 @@ fn find_kept(
     kept_sums: &mut [f32],
     most: usize,
 ) -> KeptFound
-    requires { ⌜ FindAsks (now tokens) (now sums) (now finals) (now records) (now labels) (now gaps) states side used counts margin listed (now heads) n (length (now keys)) (length (now places)) (length (now lists)) (now «kept_hashes») (now «kept_links») (now «kept_sums») most ⌝ }
+    requires { ⌜ (FindAsks (now tokens) (now sums) (now finals) (now records) (now labels) (now gaps) states side used counts margin listed (now heads) n (length (now keys)) (length (now places)) (length (now lists)) (now «kept_hashes») (now «kept_links») (now «kept_sums») most) × (Summed (now records) (now labels) used (now «history_keys») (now «history_skips»)) ⌝ }
     ensures { λ r. ⌜ FoundIs (now (tokens .entry)) (now (sums .entry)) (now (finals .entry)) (now (records .entry)) (now (labels .entry)) (now (gaps .entry)) side used margin counts listed bound (now (heads .entry)) n (now (hashes .exit)) (now (nexts .exit)) (now (costs .exit)) (entryPlaces (length (now (hashes .entry))) (length (now (nexts .entry))) (length (now (costs .entry)))) (now («kept_hashes» .exit)) (now («kept_links» .exit)) (now («kept_sums» .exit)) most r ⌝ }
 {
     let m = list_heads(
@@ -201,6 +212,8 @@ fn find_kept(
         labels,
         side,
         used,
+        history_keys,
+        history_skips,
         counts,
         bound,
         heads,
@@ -271,6 +284,7 @@ fn settle(
     labels: &[i32],
     side: u32,
     used: u32,
+    history_keys: &[u64],
     counts: bool,
     own: &mut [u32],
     m: usize,
@@ -285,7 +299,7 @@ fn settle(
     n: usize,
     route: &mut [u32],
 ) -> Counts
-    requires { ⌜ SettleAsks (now tokens) (now sums) (now finals) (now records) (now labels) side used (now own) m (length (now keys)) (length (now places)) (now gone) (now nexts) (now «kept_hashes») (now «kept_links») (now «kept_sums») (now order) n (now route) ⌝ }
+    requires { ⌜ (SettleAsks (now tokens) (now sums) (now finals) (now records) (now labels) side used (now own) m (length (now keys)) (length (now places)) (now gone) (now nexts) (now «kept_hashes») (now «kept_links») (now «kept_sums») (now order) n (now route)) × (Keys (now records) (now labels) used used (now «history_keys»)) ⌝ }
     ensures { λ r. ⌜ Settled (sameTest (now (records .entry)) (now (labels .entry)) (now (tokens .entry)) side (now (nexts .entry)) (now («kept_hashes» .entry)) (now («kept_links» .entry)) (now («kept_sums» .entry))) (keptFirst (now (tokens .entry)) (now (sums .entry)) (now (finals .entry)) side counts (now («kept_hashes» .entry)) (now («kept_links» .entry)) (now («kept_sums» .entry))) (now (own .entry)) (now (own .exit)) m (now (order .entry)) (now (order .exit)) n r ⌝ }
 {
     groups::fill_keys(
@@ -294,6 +308,7 @@ fn settle(
         labels,
         side,
         used,
+        history_keys,
         false,
         own,
         m,
@@ -342,6 +357,7 @@ fn list_with(
     states: u32,
     side: u32,
     used: u32,
+    history_keys: &[u64],
     counts: bool,
     own: &mut [u32],
     m: usize,
@@ -358,7 +374,7 @@ fn list_with(
     rb: &mut [u32],
     list: &mut [u32],
 ) -> usize
-    requires { ⌜ WithAsks (now tokens) (now sums) (now finals) (now records) (now labels) states side used counts (now own) m (now nexts) (now «kept_hashes») (now «kept_links») (now «kept_sums») n (slices (length (now keys)) (length (now places)) (length (now gone)) (length (now order)) (length (now ra)) (length (now rb)) (length (now list))) ⌝ }
+    requires { ⌜ (WithAsks (now tokens) (now sums) (now finals) (now records) (now labels) states side used counts (now own) m (now nexts) (now «kept_hashes») (now «kept_links») (now «kept_sums») n (slices (length (now keys)) (length (now places)) (length (now gone)) (length (now order)) (length (now ra)) (length (now rb)) (length (now list)))) × (Keys (now records) (now labels) used used (now «history_keys»)) ⌝ }
     ensures { λ k. ⌜ WithIs (now (tokens .entry)) (now (sums .entry)) (now (finals .entry)) (now (records .entry)) (now (labels .entry)) side counts (now (own .entry)) m (now (nexts .entry)) (now («kept_hashes» .entry)) (now («kept_links» .entry)) (now («kept_sums» .entry)) n (now (list .exit)) k ⌝ }
 {
     kept_order::order_kept(
@@ -385,6 +401,7 @@ fn list_with(
         labels,
         side,
         used,
+        history_keys,
         counts,
         own,
         m,
@@ -439,6 +456,8 @@ pub fn list_readings(
     states: u32,
     side: u32,
     used: u32,
+    history_keys: &[u64],
+    history_skips: &[u32],
     keeps: bool,
     margin: f32,
     counts: bool,
@@ -458,7 +477,7 @@ pub fn list_readings(
     kept_sums: &mut [f32],
     order: &mut [u32],
 ) -> Listing
-    requires { ⌜ (ListingAsks (now tokens) (now sums) (now finals) (now records) (now labels) (now gaps) states side used keeps margin (scratch (length (now keys)) (length (now places)) (length (now own)) (length (now heads)) (length (now list)) (length (now lists)) (length (now route)))) × (listed ≤ 64) ⌝ }
+    requires { ⌜ (ListingAsks (now tokens) (now sums) (now finals) (now records) (now labels) (now gaps) states side used keeps margin (scratch (length (now keys)) (length (now places)) (length (now own)) (length (now heads)) (length (now list)) (length (now lists)) (length (now route)))) × (listed ≤ 64) × (Summed (now records) (now labels) used (now «history_keys») (now «history_skips»)) ⌝ }
     ensures { λ r. ⌜ ListingIs (now (tokens .entry)) (now (sums .entry)) (now (finals .entry)) (now (records .entry)) (now (labels .entry)) (now (gaps .entry)) states side used keeps margin counts listed (entryPlaces (length (now (hashes .entry))) (length (now (nexts .entry))) (length (now (costs .entry)))) (keptPlaces (length (now («kept_hashes» .entry))) (length (now («kept_links» .entry))) (length (now («kept_sums» .entry))) (length (now (keys .entry))) (length (now (order .entry))) (length (now (list .entry)) - states)) (now (hashes .exit)) (now (nexts .exit)) (now (costs .exit)) (now («kept_hashes» .exit)) (now («kept_links» .exit)) (now («kept_sums» .exit)) (now (list .exit)) r ⌝ }
 {
     let r = list_own(
@@ -470,6 +489,8 @@ pub fn list_readings(
         states,
         side,
         used,
+        history_keys,
+        history_skips,
         counts,
         keys,
         places,
@@ -499,6 +520,8 @@ pub fn list_readings(
         states,
         side,
         used,
+        history_keys,
+        history_skips,
         counts,
         margin,
         listed,
@@ -526,6 +549,7 @@ pub fn list_readings(
             states,
             side,
             used,
+            history_keys,
             counts,
             own,
             r.own,

@@ -19,8 +19,6 @@ use Rattle.model.specs.Path.{Limits}
 use Rattle.model.specs.Reads.{Traced as Told, trace, traceGroups, Group}
 use Rattle.model.specs.Readings.{readings}
 use Rattle.model.specs.Calls.{Reading, readingsAnswer, readingOf, short, wordsOf, unless, readReadings}
-use Rattle.traceback.specs.declared.Size.{Size}
-use Rattle.traceback.specs.Chain.{SizeIs}
 use Rattle.below.specs.Maps.{take-map}
 use Rattle.readings.specs.Paths.{lesserOf, wordsIn, framesIn, phonesIn, front, allWords, allFrames, allSegments}
 use Rattle.readings.specs.Fronts.{words-long, frames-long, segments-long, Plain, Plains}
@@ -28,7 +26,7 @@ use Rattle.listing_laws.specs.Situation.{Situation}
 use Rattle.listing.specs.Listed.{overfull, ListIs}
 use Rattle.reading_list.specs.Outputs.{Outputs, placesIn, readingsIn, tracesIn}
 use Rattle.reading_list.specs.Right.{wordsIn as readWords, BehindList, StoresHold}
-use Rattle.reading_list.specs.Lines.{Line, linesBy, toldsIn, View, view, lineIn, trailIn, linesIn, numbersFrom, costsOf, Filled}
+use Rattle.reading_list.specs.Lines.{Line, linesBy, toldsIn, View, view, lineIn, linesIn, numbersFrom, costsOf, Filled}
 use Rattle.reading_list.specs.Fronts.{many-lines, numbers-long, costs-long}
 use Rattle.reading_list.specs.Back.{readingFor, filled-readings, filled-traces}
 use Rattle.reading_list.specs.Groups.{group, reading-is, told-is, plain-is, item-is}
@@ -152,11 +150,11 @@ module _ {tk : List ℕ} {sm fs : List Float} {rs : List ℕ} {ls : List ℤ} {g
 
   -- ---- what the slices hold
 
-  module _ (sized : (i : ℕ) → i < k → (z : Size) × SizeIs (trailIn seen (getD list i 0)) used z) {o o' : Outputs} (f : Filled lines o o') where
+  module _ {o o' : Outputs} (f : Filled lines o o') where
     plains : Plains (toldsIn (take max lines))
     plains =
         first-plain (lineIn seen) max (take k list)
-        (for-each list k long (λ (i : ℕ). Plain (lineIn seen i true .told)) (λ i l. plain-is S counts (L .decoded) (item-is S L long i l) decoded _ (sized i l .1)))
+        (for-each list k long (λ (i : ℕ). Plain (lineIn seen i true .told)) (λ i l. plain-is S counts (L .decoded) (item-is S L long i l) decoded _))
 
     as-many : length lines ≡ k
     as-many = many-lines (lineIn seen) max k list long

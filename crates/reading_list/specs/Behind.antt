@@ -13,7 +13,7 @@ use Rattle.tokens.specs.declared.Token.{Token}
 use Rattle.tokens.specs.Layout.{cellAt, tokenOf, placeIn}
 use Rattle.traceback.specs.declared.Size.{Size}
 use Rattle.traceback.specs.Trail.{Trail, noTrail}
-use Rattle.traceback.specs.Chain.{trailFrom, SizeIs}
+use Rattle.traceback.specs.Chain.{trailFrom}
 use Rattle.traceback.specs.Write.{flat, Wrote}
 use Rattle.traceback.specs.Right.{Fits}
 use Rattle.groups.specs.Firsts.{linkAt}
@@ -24,7 +24,8 @@ use Rattle.reading_list.specs.declared.Reading.{Reading}
 use Rattle.reading_list.specs.declared.Totals.{Totals}
 use Rattle.reading_list.specs.Outputs.{Outputs}
 use Rattle.reading_list.specs.Items.{trailOf}
-use Rattle.reading_list.specs.Lines.{grownBy, GrowAsks, BehindAsks, WrittenBehind, fiveOf, fourOf, lineOf, LineAsks, LinePut}
+use Rattle.reading_list.specs.Lines.{SizeFor, grownBy, GrowAsks, BehindAsks, WrittenBehind, fiveOf, fourOf, lineOf, LineAsks, LinePut}
+use Rattle.reading_list.specs.Sizes.{size-whole}
 
 -- ---- the words alone
 
@@ -48,7 +49,7 @@ module _ {t : Trail} {used : ℕ} {z : Size} {traced : Bool} {w s : ℕ} {W : Li
         record {
           words = let a = part-long W w in let b = asks .words in let c = asks .size .words in omega arith;
           frames = let a = part-long F w in let b = asks .frames e in let c = asks .size .words in omega arith;
-          segments = let a = part-long S (s * 3) in let b = asks .segments e in let c = asks .size .segments in omega arith;
+          segments = let a = part-long S (s * 3) in let b = asks .segments e in let c = size-whole e (asks .size) .segments in omega arith;
         }
 
     pub behind-traced : {W' : List ℤ} {F' S' : List ℕ} → Wrote t (partOf W w) (partOf F w) (partOf S (s * 3)) W' F' S' → WrittenBehind traced t w s W F S (putPart W w W') (putPart F w F') (putPart S (s * 3) S')
@@ -84,8 +85,8 @@ module _ (tk rs : List ℕ) (ls : List ℤ) (ns : List ℕ) (b n : ℕ) (g : Rea
   route-many : k ≡ length (joinsOf ns (g .entry))
   route-many = sym (length-take-le k route (is .few)) ∙ ap length (is .joins)
 
-  pub size-of : {used : ℕ} {z : Size} → SizeIs (trailFrom rs ls (take k route) n link noTrail) used z → SizeIs (trailOf tk rs ls ns b n g) used z
-  size-of {used} {z} = subst (λ (t : Trail). SizeIs t used z) trail-same
+  pub size-of : {used : ℕ} {traced : Bool} {z : Size} → SizeFor traced (trailFrom rs ls (take k route) n link noTrail) used z → SizeFor traced (trailOf tk rs ls ns b n g) used z
+  size-of {used} {traced} {z} = subst (λ (t : Trail). SizeFor traced t used z) trail-same
 
 module _ {tk : List ℕ} {sm : List Float} {rs : List ℕ} {ls : List ℤ} {ns : List ℕ} {b used n : ℕ} {g : Reading} {i : ℕ} {traced : Bool} {at : Totals} {route : List ℕ} {o : Outputs} (asks : LineAsks tk sm rs ls ns b used n g i traced at route o)
     {t : Token} (token : t ≡ tokenOf (cellAt tk sm (placeIn b (g .state)))) where
@@ -96,7 +97,7 @@ module _ {tk : List ℕ} {sm : List Float} {rs : List ℕ} {ls : List ℤ} {ns :
   pub link-low : t .link ≤ used
   link-low = let e = link-is in let l = asks .path .low in omega arith
 
-  module _ {route' : List ℕ} {k : ℕ} (is : RouteIs ns (g .entry) route' k) {z : Size} (size : SizeIs (trailFrom rs ls (take k route') n (t .link) noTrail) used z) where
+  module _ {route' : List ℕ} {k : ℕ} (is : RouteIs ns (g .entry) route' k) {z : Size} (size : SizeFor traced (trailFrom rs ls (take k route') n (t .link) noTrail) used z) where
     same : trailFrom rs ls (take k route') n (t .link) noTrail ≡ trailOf tk rs ls ns b n g
     same = trail-same tk rs ls ns b n g is link-is
 
@@ -125,6 +126,6 @@ module _ {tk : List ℕ} {sm : List Float} {rs : List ℕ} {ls : List ℤ} {ns :
           to-segments = ap (λ (x : Totals). x .segments) grown ∙ by traced (own .segments);
         }
       where
-        by : (c : Bool) → z .segments ≡ length (trailOf tk rs ls ns b n g .segments) → cond c (at .segments + z .segments) (at .segments) ≡ at .segments + length (cond c (trailOf tk rs ls ns b n g .segments) [])
+        by : (c : Bool) → z .segments ≡ length (cond c (trailOf tk rs ls ns b n g .segments) []) → cond c (at .segments + z .segments) (at .segments) ≡ at .segments + length (cond c (trailOf tk rs ls ns b n g .segments) [])
         by true e = ap (λ (x : ℕ). at .segments + x) e
         by false e = omega arith

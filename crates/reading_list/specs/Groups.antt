@@ -25,9 +25,7 @@ use Rattle.tokens.specs.declared.Token.{Token}
 use Rattle.tokens.specs.Layout.{cellAt, tokenOf, placeIn}
 use Rattle.stores.specs.Shown.{Is, TokenIs}
 use Rattle.stores.specs.Tables.{active-at, stored-is}
-use Rattle.traceback.specs.declared.Size.{Size}
 use Rattle.traceback.specs.Ranks.{candidateAt}
-use Rattle.traceback.specs.Chain.{SizeIs}
 use Rattle.traceback.specs.Traced.{numbersOf, Routed, trail-is}
 use Rattle.traceback.specs.Answers.{toldBy}
 use Rattle.groups.specs.Firsts.{linkAt}
@@ -46,6 +44,7 @@ use Rattle.listing.specs.Listed.{ListIs}
 use Rattle.reading_list.specs.declared.Reading.{Reading}
 use Rattle.reading_list.specs.Items.{ownReading, keptReading, itemReading, trailOf}
 use Rattle.reading_list.specs.Lines.{lineOf}
+use Rattle.reading_list.specs.Sizes.{size-own}
 use Rattle.reading_list.specs.Back.{readingFor}
 
 module _ {tk : List ℕ} {sm fs : List Float} {rs : List ℕ} {ls : List ℤ} {gs : List Float} {n b used : ℕ} {keeps : Bool} {margin : Float} (S : Situation tk sm fs rs ls gs n b used keeps margin) (counts : Bool) {hs ns : List ℕ} {xs : List Float} {bs : List Below} (D : Decoded (S .h) used hs ns xs bs) where
@@ -89,8 +88,8 @@ module _ {tk : List ℕ} {sm fs : List Float} {rs : List ℕ} {ls : List ℤ} {g
     pub even-is : (decoded : ℕ) → length (trailOf tk rs ls ns b decoded g .frames) ≡ length (trailOf tk rs ls ns b decoded g .words)
     even-is decoded = sym (ap (λ (t : Told). length (t .wordFrames)) (trace-is decoded 0f)) ∙ trace-even decoded ∙ ap (λ (t : Told). length (t .words)) (trace-is decoded 0f)
 
-    pub plain-is : (decoded : ℕ) (c : Float) {z : Size} → SizeIs (trailOf tk rs ls ns b decoded g) used z → Plain (toldBy (trailOf tk rs ls ns b decoded g) c)
-    plain-is decoded c {z} size = plain-of rs ls gs joins used decoded (linkAt tk b (g .state)) z size (S .h) (S .stands) routed (x .token .path) link-is c
+    pub plain-is : (decoded : ℕ) (c : Float) → Plain (toldBy (trailOf tk rs ls ns b decoded g) c)
+    plain-is decoded c = plain-of rs ls gs joins used decoded (linkAt tk b (g .state)) _ (size-own rs ls joins decoded (link-is .low)) (S .h) (S .stands) routed (x .token .path) link-is c
 
     token-is : (t : Token) × (tokenOf (cellAt tk sm (placeIn b (g .state))) ≡ t) × TokenIs (S .h) used t (x .token)
     unfolding rankOne

@@ -3,6 +3,7 @@ pub mod Outputs
 pub mod Right
 pub mod Items
 pub mod Lines
+pub mod Sizes
 pub mod Fronts
 pub mod Back
 pub mod Totals

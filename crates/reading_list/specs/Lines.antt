@@ -14,7 +14,6 @@ use Rattle.tokens.specs.declared.Token.{Token}
 use Rattle.tokens.specs.Layout.{cellAt, tokenOf, placeIn}
 use Rattle.traceback.specs.declared.Size.{Size}
 use Rattle.traceback.specs.Trail.{Trail}
-use Rattle.traceback.specs.Chain.{SizeIs}
 use Rattle.traceback.specs.Write.{flat}
 use Rattle.routes.specs.Entries.{joinsOf}
 use Rattle.readings.specs.Paths.{wordsIn, framesIn, phonesIn, front, allWords, allFrames, allSegments}
@@ -97,6 +96,12 @@ pub record ListAsks (v : View) (list : List ℕ) (k : ℕ) (route : List ℕ) : 
 abbrev pub totalsBy : (words traced segments : ℕ) → Totals
 totalsBy w f s = record { words = w; traced = f; segments = s }
 
+-- of a path; where it is not traced, of its words alone
+pub record SizeFor (traced : Bool) (t : Trail) (used : ℕ) (r : Size) : Type 0 where
+  pub words : r .words ≡ length (t .words)
+  pub segments : r .segments ≡ length (cond traced (t .segments) [])
+  pub few : (r .words ≤ used) × (r .segments ≤ used * 2)
+
 -- the sums fit
 pub record GrowAsks (t : Totals) (z : Size) : Type 0 where
   pub words : t .words + z .words ≤ 0x7fff_ffff_ffff_ffff
@@ -111,7 +116,6 @@ pub record TotalsAre (v : View) (max : ℕ) (list : List ℕ) (k : ℕ) (r : Tot
   pub traced : r .traced ≡ framesIn (toldsIn (linesIn v max list k))
   pub segments : r .segments ≡ phonesIn (toldsIn (linesIn v max list k))
   pub few : (r .words ≤ k * 1_048_576) × (r .segments ≤ k * 2_097_152)
-  pub sized : (i : ℕ) → i < k → (z : Size) × SizeIs (trailIn v (getD list i 0)) (v .used) z
 
 abbrev pub tooShort : Totals → (k words frames segments numbers costs : ℕ) → Bool
 tooShort t k w f s n c = ltb w (t .words) || (ltb f (t .traced) || (ltb s (t .segments) || (ltb n k || ltb c k)))
@@ -119,7 +123,7 @@ tooShort t k w f s n c = ltb w (t .words) || (ltb f (t .traced) || (ltb s (t .se
 -- ---- one path written behind others
 
 pub record BehindAsks (t : Trail) (used : ℕ) (z : Size) (traced : Bool) (w s : ℕ) (ws : List ℤ) (fs ss : List ℕ) : Type 0 where
-  pub size : SizeIs t used z
+  pub size : SizeFor traced t used z
   pub words : w + length (t .words) ≤ length ws
   pub frames : traced ≡ true → w + length (t .words) ≤ length fs
   pub segments : traced ≡ true → (s + length (t .segments)) * 3 ≤ length ss
@@ -195,5 +199,4 @@ pub record WriteAsks (v : View) (max : ℕ) (list : List ℕ) (k : ℕ) (route :
 -- 11 and nothing written, or all of them
 pub data ListWritten (v : View) (max : ℕ) (list : List ℕ) (k : ℕ) (o o' : Outputs) : ReadingList → Type 0 where
   noRoom : short (placesIn o) (wordsOf (toldsIn (linesIn v max list k))) (toldsIn (linesIn v max list k)) k ≡ true → o' ≡ o → ListWritten v max list k o o' (Refused 11)
-  areWritten : short (placesIn o) (wordsOf (toldsIn (linesIn v max list k))) (toldsIn (linesIn v max list k)) k ≡ false → Filled (linesIn v max list k) o o'
-      → ((i : ℕ) → i < k → (z : Size) × SizeIs (trailIn v (getD list i 0)) (v .used) z) → ListWritten v max list k o o' (Readings k)
+  areWritten : short (placesIn o) (wordsOf (toldsIn (linesIn v max list k))) (toldsIn (linesIn v max list k)) k ≡ false → Filled (linesIn v max list k) o o' → ListWritten v max list k o o' (Readings k)

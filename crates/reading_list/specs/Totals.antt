@@ -10,18 +10,17 @@ use lib.Dec.{ltb}
 use lib.ListN.{length, getD, take}
 use lib.Seq.{length-take-le, getD-take}
 use borrow.Author.Tests.{ltb-true, ltb-false, lt-ltb, le-ltb}
-use Rattle.lists.specs.Tests.{case, lt-or-le, below-more, or-neither}
+use Rattle.lists.specs.Tests.{case, lt-or-le, or-neither}
 use Rattle.model.specs.Reads.{Traced as Told}
 use Rattle.model.specs.Calls.{short, wordsOf}
 use Rattle.traceback.specs.declared.Size.{Size}
-use Rattle.traceback.specs.Chain.{SizeIs}
 use Rattle.readings.specs.Paths.{wordsIn, framesIn, phonesIn, lesserOf}
 use Rattle.readings.specs.Fronts.{words-sum, frames-sum, phones-sum}
 use Rattle.reading_list.specs.declared.Reading.{Reading}
 use Rattle.reading_list.specs.declared.Totals.{Totals}
 use Rattle.reading_list.specs.Outputs.{Outputs, placesIn}
 use Rattle.reading_list.specs.Items.{trailOf, PathAsks}
-use Rattle.reading_list.specs.Lines.{View, Line, toldsIn, lineIn, readingIn, trailIn, linesIn, ListAsks, totalsBy, GrowAsks, grownBy, TotalsAre, tooShort, RoomFor}
+use Rattle.reading_list.specs.Lines.{View, Line, toldsIn, lineIn, readingIn, trailIn, linesIn, ListAsks, totalsBy, SizeFor, GrowAsks, grownBy, TotalsAre, tooShort, RoomFor}
 use Rattle.reading_list.specs.Fronts.{line-next, many-lines, even-lines, tolds-more}
 
 -- another route slice of the same length
@@ -71,10 +70,10 @@ module _ {v : View} {list : List ℕ} {k : ℕ} {route : List ℕ} (asks : ListA
   total-none = go list
     where
       go : (xs : List ℕ) → TotalsAre v max xs 0 (totalsBy 0 0 0)
-      go [] = record { words = refl; traced = refl; segments = refl; few = (omega arith, omega arith); sized = λ j q. absurd (omega arith) }
-      go (x ∷ xs) = record { words = refl; traced = refl; segments = refl; few = (omega arith, omega arith); sized = λ j q. absurd (omega arith) }
+      go [] = record { words = refl; traced = refl; segments = refl; few = (omega arith, omega arith) }
+      go (x ∷ xs) = record { words = refl; traced = refl; segments = refl; few = (omega arith, omega arith) }
 
-  module _ {i : ℕ} {t : Totals} {z : Size} (l : i < k) (are : TotalsAre v max list i t) (size : SizeIs (trailIn v (getD list i 0)) (v .used) z) where
+  module _ {i : ℕ} {t : Totals} {z : Size} (l : i < k) (are : TotalsAre v max list i t) (size : SizeFor (ltb i max) (trailIn v (getD list i 0)) (v .used) z) where
     grow-asks : GrowAsks t z
     grow-asks =
         let u = asks .paths i l .walkable .few in
@@ -87,18 +86,17 @@ module _ {v : View} {list : List ℕ} {k : ℕ} {route : List ℕ} (asks : ListA
         record {
           words = let a = are .words in let c = size .words in let e = words-next i l in omega arith;
           traced = frames-by (ltb i max) refl ∙ sym (frames-next i l);
-          segments = phones-by (ltb i max) ∙ sym (phones-next i l);
+          segments = phones-by (ltb i max) (size .segments) ∙ sym (phones-next i l);
           few = (let a = are .few .0 in let c = size .few .0 in omega arith, few-by (ltb i max));
-          sized = below-more (λ (j : ℕ). (x : Size) × SizeIs (trailIn v (getD list j 0)) (v .used) x) i (are .sized) (z, size);
         }
       where
         frames-by : (b : Bool) → ltb i max ≡ b → cond b (t .words + z .words) (t .traced) ≡ framesIn (tolds i) + length (cond b (trailIn v (getD list i 0) .frames) [])
         frames-by true q = let a = are .words in let c = size .words in let h = ltb-true i max q in let e = even-upto i (omega arith) (omega arith) in let d = asks .even i l in omega arith
         frames-by false q = let a = are .traced in omega arith
 
-        phones-by : (b : Bool) → cond b (t .segments + z .segments) (t .segments) ≡ phonesIn (tolds i) + length (cond b (trailIn v (getD list i 0) .segments) [])
-        phones-by true = let a = are .segments in let c = size .segments in omega arith
-        phones-by false = let a = are .segments in omega arith
+        phones-by : (b : Bool) → z .segments ≡ length (cond b (trailIn v (getD list i 0) .segments) []) → cond b (t .segments + z .segments) (t .segments) ≡ phonesIn (tolds i) + length (cond b (trailIn v (getD list i 0) .segments) [])
+        phones-by true c = let a = are .segments in omega arith
+        phones-by false c = let a = are .segments in omega arith
 
         few-by : (b : Bool) → cond b (t .segments + z .segments) (t .segments) ≤ (i + 1) * 2_097_152
         few-by true = let u = asks .paths i l .walkable .few in let a = are .few .1 in let c = size .few .1 in omega arith
@@ -109,9 +107,9 @@ module _ {v : View} {list : List ℕ} {k : ℕ} {route : List ℕ} (asks : ListA
     pub path-of : {route' : List ℕ} → length route' ≡ length route → PathAsks (v .tokens) (v .records) (v .labels) (v .nexts) (v .side) (v .used) g route'
     path-of {route'} e = subst (λ (x : Reading). PathAsks (v .tokens) (v .records) (v .labels) (v .nexts) (v .side) (v .used) x route') (sym is) (path-again e (asks .paths i l))
 
-    module _ {t : Totals} {z : Size} (are : TotalsAre v max list i t) (size : SizeIs (trailOf (v .tokens) (v .records) (v .labels) (v .nexts) (v .side) (v .decoded) g) (v .used) z) where
-      size-here : SizeIs (trailIn v (getD list i 0)) (v .used) z
-      size-here = subst (λ (x : Reading). SizeIs (trailOf (v .tokens) (v .records) (v .labels) (v .nexts) (v .side) (v .decoded) x) (v .used) z) is size
+    module _ {t : Totals} {z : Size} (are : TotalsAre v max list i t) (size : SizeFor (ltb i max) (trailOf (v .tokens) (v .records) (v .labels) (v .nexts) (v .side) (v .decoded) g) (v .used) z) where
+      size-here : SizeFor (ltb i max) (trailIn v (getD list i 0)) (v .used) z
+      size-here = subst (λ (x : Reading). SizeFor (ltb i max) (trailOf (v .tokens) (v .records) (v .labels) (v .nexts) (v .side) (v .decoded) x) (v .used) z) is size
 
       pub fits-more : GrowAsks t z
       fits-more = grow-asks l are size-here

@@ -141,10 +141,10 @@ module _ {tk : List ℕ} {sm fs : List Float} {rs : List ℕ} {ls : List ℤ} {g
             answer = λ S d l h. sym (answer-is S (list-of S) (items .long) decoded max d l h o (not-many listed max m t) (items .is S use-final (counts-are counted S) .0) e);
             kept-is = q;
           }
-      read-right asks {max} {decoded} m t {o} {o'} (areWritten e f sized) =
+      read-right asks {max} {decoded} m t {o} {o'} (areWritten e f) =
           record {
             answer = λ S d l h.
-                ap₂ readingsAnswer (readings-back S (list-of S) (items .long) decoded max sized f) (traces-back S (list-of S) (items .long) decoded max sized f)
+                ap₂ readingsAnswer (readings-back S (list-of S) (items .long) decoded max f) (traces-back S (list-of S) (items .long) decoded max f)
                 ∙ sym (answer-is S (list-of S) (items .long) decoded max d l h o (not-many listed max m t) (items .is S use-final (counts-are counted S) .0) e);
-            kept-is = let S = asks .stores .situation in left-behind S (list-of S) (items .long) decoded max sized f;
+            kept-is = let S = asks .stores .situation in left-behind S (list-of S) (items .long) decoded max f;
           }

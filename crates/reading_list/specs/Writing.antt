@@ -170,4 +170,4 @@ module _ {v : View} {max : ℕ} {list : List ℕ} {k : ℕ} {route : List ℕ} (
   list-refused e = noRoom (short-told e) refl
 
   pub list-written : {o' : Outputs} → r ≡ false → Filled (linesIn v max list k) o o' → ListWritten v max list k o o' (Readings k)
-  list-written e f = areWritten (short-told e) f (are .sized)
+  list-written e f = areWritten (short-told e) f

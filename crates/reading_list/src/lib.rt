@@ -3,14 +3,15 @@ ghost use mathlib.Core.Path.{_≡_};
 ghost use Prim.Native.Nat.{_+_, _-_, _*_, _≤_};
 ghost use lib.ListN.{length};
 ghost use lib.Seq.{sets};
+ghost use Rattle.summaries.specs.Summed.{Skips};
 ghost use Rattle.traceback.specs.Trail.{noTrail};
-ghost use Rattle.traceback.specs.Chain.{Walkable, trailFrom, SizeIs};
+ghost use Rattle.traceback.specs.Chain.{Walkable, trailFrom};
 ghost use Rattle.listing.specs.Places.{entryPlaces, keptPlaces};
 ghost use Rattle.listing.specs.Listed.{scratch, ListingAsks};
 ghost use Rattle.reading_list.specs.Outputs.{outputs};
 ghost use Rattle.reading_list.specs.Right.{ReadingsRight};
 ghost use Rattle.reading_list.specs.Items.{ownReading, keptReading, itemReading, ItemAsks, trailOf, PathAsks};
-ghost use Rattle.reading_list.specs.Lines.{view, lineOf, linesIn, ListAsks, GrowAsks, grownBy, TotalsAre, tooShort, BehindAsks, WrittenBehind, fiveOf, fourOf, LineAsks, LinePut, WriteAsks, Filled, ListWritten};
+ghost use Rattle.reading_list.specs.Lines.{view, lineOf, linesIn, ListAsks, SizeFor, GrowAsks, grownBy, TotalsAre, tooShort, BehindAsks, WrittenBehind, fiveOf, fourOf, LineAsks, LinePut, WriteAsks, Filled, ListWritten};
 use kept_readings::KeptReading;
 use listing::Listing;
 use tokens::Token;
@@ -81,24 +82,58 @@ fn reading_at(
     ))
 }
 
-// The size of a reading's path.
+// The size of a path; where it is not traced, of its words alone.
+fn measure_path(
+    records: &[u32],
+    labels: &[i32],
+    route: &[u32],
+    used: u32,
+    history_skips: &[u32],
+    n: u32,
+    link: u32,
+    traced: bool,
+) -> Size
+    requires { ⌜ (Walkable (now records) (now labels) used) × (link ≤ used) × (Skips (now records) (now labels) used used (now «history_skips»)) ⌝ }
+    ensures { λ r. ⌜ SizeFor traced (trailFrom (now (records .entry)) (now (labels .entry)) (now (route .entry)) n link noTrail) used r ⌝ }
+{
+    if traced {
+        return traceback::measure(records, labels, route, used, n, link);
+    }
+    Size {
+        words: routes::count_words(records, labels, route, used, history_skips, link),
+        segments: 0,
+    }
+}
+
+// The same of a reading's path.
 fn measure_reading(
     tokens: &[u32],
     records: &[u32],
     labels: &[i32],
     side: u32,
     used: u32,
+    history_skips: &[u32],
     n: u32,
     nexts: &[u32],
     g: Reading,
+    traced: bool,
     route: &mut [u32],
 ) -> Size
-    requires { ⌜ PathAsks (now tokens) (now records) (now labels) (now nexts) side used g (now route) ⌝ }
-    ensures { λ r. ⌜ SizeIs (trailOf (now (tokens .entry)) (now (records .entry)) (now (labels .entry)) (now (nexts .entry)) side n g) used r ⌝ }
+    requires { ⌜ (PathAsks (now tokens) (now records) (now labels) (now nexts) side used g (now route)) × (Skips (now records) (now labels) used used (now «history_skips»)) ⌝ }
+    ensures { λ r. ⌜ SizeFor traced (trailOf (now (tokens .entry)) (now (records .entry)) (now (labels .entry)) (now (nexts .entry)) side n g) used r ⌝ }
 {
     let link = tokens::link_at(tokens, side, g.state);
     let k = routes::route_of(nexts, g.entry, route);
-    traceback::measure(records, labels, &route[..k], used, n, link)
+    measure_path(
+        records,
+        labels,
+        &route[..k],
+        used,
+        history_skips,
+        n,
+        link,
+        traced,
+    )
 }
 
 // Words of readings, and of those that are traced words and segments.
@@ -136,6 +171,7 @@ fn measure_all(
     labels: &[i32],
     side: u32,
     used: u32,
+    history_skips: &[u32],
     n: u32,
     counts: bool,
     nexts: &[u32],
@@ -147,7 +183,7 @@ fn measure_all(
     max: usize,
     route: &mut [u32],
 ) -> Totals
-    requires { ⌜ ListAsks (view (now tokens) (now sums) (now finals) (now records) (now labels) (now nexts) (now «kept_hashes») (now «kept_links») (now «kept_sums») side used n counts) (now list) k (now route) ⌝ }
+    requires { ⌜ (ListAsks (view (now tokens) (now sums) (now finals) (now records) (now labels) (now nexts) (now «kept_hashes») (now «kept_links») (now «kept_sums») side used n counts) (now list) k (now route)) × (Skips (now records) (now labels) used used (now «history_skips»)) ⌝ }
     ensures { λ r. ⌜ TotalsAre (view (now (tokens .entry)) (now (sums .entry)) (now (finals .entry)) (now (records .entry)) (now (labels .entry)) (now (nexts .entry)) (now («kept_hashes» .entry)) (now («kept_links» .entry)) (now («kept_sums» .entry)) side used n counts) max (now (list .entry)) k r ⌝ }
 {
     let mut total = Totals {
@@ -167,7 +203,19 @@ fn measure_all(
             kept_sums,
             list[i],
         );
-        let z = measure_reading(tokens, records, labels, side, used, n, nexts, g, route);
+        let z = measure_reading(
+            tokens,
+            records,
+            labels,
+            side,
+            used,
+            history_skips,
+            n,
+            nexts,
+            g,
+            i < max,
+            route,
+        );
         total = grown(total, z, i < max);
     }
     total
@@ -206,6 +254,7 @@ fn write_behind(
     labels: &[i32],
     route: &[u32],
     used: u32,
+    history_skips: &[u32],
     n: u32,
     link: u32,
     z: Size,
@@ -216,7 +265,7 @@ fn write_behind(
     frames: &mut [u32],
     segments: &mut [u32],
 )
-    requires { ⌜ (Walkable (now records) (now labels) used) × (link ≤ used) × (BehindAsks (trailFrom (now records) (now labels) (now route) n link noTrail) used z traced w s (now words) (now frames) (now segments)) ⌝ }
+    requires { ⌜ (Walkable (now records) (now labels) used) × (link ≤ used) × (BehindAsks (trailFrom (now records) (now labels) (now route) n link noTrail) used z traced w s (now words) (now frames) (now segments)) × (Skips (now records) (now labels) used used (now «history_skips»)) ⌝ }
     ensures { λ _. ⌜ WrittenBehind traced (trailFrom (now (records .entry)) (now (labels .entry)) (now (route .entry)) n link noTrail) w s (now (words .entry)) (now (frames .entry)) (now (segments .entry)) (now (words .exit)) (now (frames .exit)) (now (segments .exit)) ⌝ }
 {
     if traced {
@@ -235,7 +284,16 @@ fn write_behind(
         );
         return;
     }
-    routes::write_words(records, labels, route, used, link, z.words, &mut words[w..]);
+    routes::write_words(
+        records,
+        labels,
+        route,
+        used,
+        history_skips,
+        link,
+        z.words,
+        &mut words[w..],
+    );
 }
 
 // The numbers of the i-th reading: where its words and its segments end, how many kept histories it takes, and its token's phone and seq.
@@ -269,6 +327,7 @@ fn write_reading(
     labels: &[i32],
     side: u32,
     used: u32,
+    history_skips: &[u32],
     n: u32,
     nexts: &[u32],
     g: Reading,
@@ -282,17 +341,27 @@ fn write_reading(
     numbers: &mut [u64],
     costs: &mut [f32],
 ) -> Totals
-    requires { ⌜ LineAsks (now tokens) (now sums) (now records) (now labels) (now nexts) side used n g i traced at (now route) (outputs (now words) (now frames) (now segments) (now numbers) (now costs)) ⌝ }
+    requires { ⌜ (LineAsks (now tokens) (now sums) (now records) (now labels) (now nexts) side used n g i traced at (now route) (outputs (now words) (now frames) (now segments) (now numbers) (now costs))) × (Skips (now records) (now labels) used used (now «history_skips»)) ⌝ }
     ensures { λ r. ⌜ LinePut (lineOf (now (tokens .entry)) (now (sums .entry)) (now (records .entry)) (now (labels .entry)) (now (nexts .entry)) side n g traced) i at r (outputs (now (words .entry)) (now (frames .entry)) (now (segments .entry)) (now (numbers .entry)) (now (costs .entry))) (outputs (now (words .exit)) (now (frames .exit)) (now (segments .exit)) (now (numbers .exit)) (now (costs .exit))) ⌝ }
 {
     let t = tokens::token_at(tokens, sums, side, g.state);
     let k = routes::route_of(nexts, g.entry, route);
-    let z = traceback::measure(records, labels, &route[..k], used, n, t.link);
+    let z = measure_path(
+        records,
+        labels,
+        &route[..k],
+        used,
+        history_skips,
+        n,
+        t.link,
+        traced,
+    );
     write_behind(
         records,
         labels,
         &route[..k],
         used,
+        history_skips,
         n,
         t.link,
         z,
@@ -318,6 +387,7 @@ fn write_all(
     labels: &[i32],
     side: u32,
     used: u32,
+    history_skips: &[u32],
     n: u32,
     counts: bool,
     nexts: &[u32],
@@ -334,7 +404,7 @@ fn write_all(
     numbers: &mut [u64],
     costs: &mut [f32],
 )
-    requires { ⌜ WriteAsks (view (now tokens) (now sums) (now finals) (now records) (now labels) (now nexts) (now «kept_hashes») (now «kept_links») (now «kept_sums») side used n counts) max (now list) k (now route) (outputs (now words) (now frames) (now segments) (now numbers) (now costs)) ⌝ }
+    requires { ⌜ (WriteAsks (view (now tokens) (now sums) (now finals) (now records) (now labels) (now nexts) (now «kept_hashes») (now «kept_links») (now «kept_sums») side used n counts) max (now list) k (now route) (outputs (now words) (now frames) (now segments) (now numbers) (now costs))) × (Skips (now records) (now labels) used used (now «history_skips»)) ⌝ }
     ensures { λ _. ⌜ Filled (linesIn (view (now (tokens .entry)) (now (sums .entry)) (now (finals .entry)) (now (records .entry)) (now (labels .entry)) (now (nexts .entry)) (now («kept_hashes» .entry)) (now («kept_links» .entry)) (now («kept_sums» .entry)) side used n counts) max (now (list .entry)) k) (outputs (now (words .entry)) (now (frames .entry)) (now (segments .entry)) (now (numbers .entry)) (now (costs .entry))) (outputs (now (words .exit)) (now (frames .exit)) (now (segments .exit)) (now (numbers .exit)) (now (costs .exit))) ⌝ }
 {
     let mut at = Totals {
@@ -361,6 +431,7 @@ fn write_all(
             labels,
             side,
             used,
+            history_skips,
             n,
             nexts,
             g,
@@ -392,6 +463,7 @@ fn write_list(
     labels: &[i32],
     side: u32,
     used: u32,
+    history_skips: &[u32],
     n: u32,
     counts: bool,
     nexts: &[u32],
@@ -408,7 +480,7 @@ fn write_list(
     numbers: &mut [u64],
     costs: &mut [f32],
 ) -> ReadingList
-    requires { ⌜ ListAsks (view (now tokens) (now sums) (now finals) (now records) (now labels) (now nexts) (now «kept_hashes») (now «kept_links») (now «kept_sums») side used n counts) (now list) k (now route) ⌝ }
+    requires { ⌜ (ListAsks (view (now tokens) (now sums) (now finals) (now records) (now labels) (now nexts) (now «kept_hashes») (now «kept_links») (now «kept_sums») side used n counts) (now list) k (now route)) × (Skips (now records) (now labels) used used (now «history_skips»)) ⌝ }
     ensures { λ r. ⌜ ListWritten (view (now (tokens .entry)) (now (sums .entry)) (now (finals .entry)) (now (records .entry)) (now (labels .entry)) (now (nexts .entry)) (now («kept_hashes» .entry)) (now («kept_links» .entry)) (now («kept_sums» .entry)) side used n counts) max (now (list .entry)) k (outputs (now (words .entry)) (now (frames .entry)) (now (segments .entry)) (now (numbers .entry)) (now (costs .entry))) (outputs (now (words .exit)) (now (frames .exit)) (now (segments .exit)) (now (numbers .exit)) (now (costs .exit))) r ⌝ }
 {
     let total = measure_all(
@@ -419,6 +491,7 @@ fn write_list(
         labels,
         side,
         used,
+        history_skips,
         n,
         counts,
         nexts,
@@ -449,6 +522,7 @@ fn write_list(
         labels,
         side,
         used,
+        history_skips,
         n,
         counts,
         nexts,
@@ -492,6 +566,8 @@ pub fn readings(
     list: &mut [u32],
     lists: &mut [u32],
     route: &mut [u32],
+    history_keys: &mut [u64],
+    history_skips: &mut [u32],
     entry_hashes: &mut [u64],
     entry_nexts: &mut [u32],
     entry_sums: &mut [f32],
@@ -505,7 +581,7 @@ pub fn readings(
     numbers: &mut [u64],
     costs: &mut [f32],
 ) -> ReadingList
-    requires { ⌜ ListingAsks (now tokens) (now sums) (now finals) (now records) (now labels) (now gaps) states side used keeps margin (scratch (length (now keys)) (length (now places)) (length (now own)) (length (now heads)) (length (now list)) (length (now lists)) (length (now route))) ⌝ }
+    requires { ⌜ (ListingAsks (now tokens) (now sums) (now finals) (now records) (now labels) (now gaps) states side used keeps margin (scratch (length (now keys)) (length (now places)) (length (now own)) (length (now heads)) (length (now list)) (length (now lists)) (length (now route)))) × (used * 2 ≤ length (now «history_keys»)) × (used * 2 ≤ length (now «history_skips»)) ⌝ }
     ensures { λ r. ⌜ ReadingsRight (now (tokens .entry)) (now (sums .entry)) (now (finals .entry)) (now (records .entry)) (now (labels .entry)) (now (gaps .entry)) states side used keeps margin n «use_final» listed max (entryPlaces (length (now («entry_hashes» .entry))) (length (now («entry_nexts» .entry))) (length (now («entry_sums» .entry)))) (keptPlaces (length (now («kept_hashes» .entry))) (length (now («kept_links» .entry))) (length (now («kept_sums» .entry))) (length (now (keys .entry))) (length (now (order .entry))) (length (now (list .entry)) - states)) (outputs (now (words .entry)) (now (frames .entry)) (now (segments .entry)) (now (numbers .entry)) (now (costs .entry))) (outputs (now (words .exit)) (now (frames .exit)) (now (segments .exit)) (now (numbers .exit)) (now (costs .exit))) r ⌝ }
 {
     if 64 < listed {
@@ -515,6 +591,7 @@ pub fn readings(
         return ReadingList::Refused(6);
     }
     let counts = traceback::finals_count(tokens, finals, states, side, use_final);
+    summaries::fill(records, labels, used, history_keys, history_skips);
     match listing::list_readings(
         tokens,
         sums,
@@ -525,6 +602,8 @@ pub fn readings(
         states,
         side,
         used,
+        history_keys,
+        history_skips,
         keeps,
         margin,
         counts,
@@ -553,6 +632,7 @@ pub fn readings(
             labels,
             side,
             used,
+            history_skips,
             n,
             counts,
             entry_nexts,

@@ -24,6 +24,7 @@ use Rattle.tokens.specs.Layout.{heldAt, placeIn}
 use Rattle.records.specs.History.{History}
 use Rattle.records.specs.Layout.{store}
 use Rattle.records.specs.Stands.{Stands}
+use Rattle.joins.specs.Walk.{Chains}
 use Rattle.stores.specs.Shown.{Is}
 use Rattle.stores.specs.Rep.{lent, Finished}
 use Rattle.stores.specs.Tables.{active-at}
@@ -101,12 +102,14 @@ module _ {tk : List ℕ} {sm fs : List Float} {rs : List ℕ} {ls : List ℤ} {n
   pub rank-asks : (counts : Bool) → RankAsks tk sm fs b n counts keys order
   rank-asks counts = record { side = read .side; tokens = read .tokens; sums = read .sums; finals = read .finals; keys-long = asks .keys-long; order-long = asks .order-long; known = asks .known counts }
 
+  pub chains-are : Chains rs ls used
+  chains-are = let w = walkable-of read in record { records = w .records; labels = w .labels; prev-low = w .prev-low }
+
   pub states-ask : {counts : Bool} {order' : List ℕ} {all : ℕ} → RankedIs tk sm fs b n counts order' all → length order' ≡ length order → StatesAsk tk rs ls b used order' all
   states-ask {order' = order'} {all} r e =
-      let w = walkable-of read in
       record {
         side = read .side;
-        chains = record { records = w .records; labels = w .labels; prev-low = w .prev-low };
+        chains = chains-are;
         long = let x = r .few in let y = asks .order-long in omega arith;
         few = let x = r .few in let y = asks .few in omega arith;
         each = λ i l.

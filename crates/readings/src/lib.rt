@@ -4,6 +4,7 @@ ghost use Prim.Native.Nat.{_+_, _*_, _≤_, _<_};
 ghost use lib.ListN.{length, take};
 ghost use Rattle.traceback.specs.Trail.{noTrail};
 ghost use Rattle.traceback.specs.Chain.{Walkable, trailFrom, SizeIs};
+ghost use Rattle.summaries.specs.Summed.{Summed};
 ghost use Rattle.readings.specs.Paths.{costIn, trailAt, toldsOf, lesserOf, sizes, tooShort, PathsAsk, FillAsks, TotalIs, PutAsks, PathPut, EntryAsks, EntryPut, WriteAsks, outputs, Filled};
 ghost use Rattle.readings.specs.Right.{StatesListed, AlternativesAsk, AlternativesRight};
 use traceback::Size;
@@ -229,13 +230,15 @@ fn list_states(
     states: u32,
     side: u32,
     used: u32,
+    history_keys: &[u64],
+    history_skips: &[u32],
     counts: bool,
     max: usize,
     keys: &mut [u64],
     places: &mut [u32],
     order: &mut [u32],
 ) -> usize
-    requires { ⌜ AlternativesAsk (now tokens) (now sums) (now finals) (now records) (now labels) states side used (now keys) (now places) (now order) ⌝ }
+    requires { ⌜ (AlternativesAsk (now tokens) (now sums) (now finals) (now records) (now labels) states side used (now keys) (now places) (now order)) × (Summed (now records) (now labels) used (now «history_keys») (now «history_skips»)) ⌝ }
     ensures { λ r. ⌜ StatesListed (now (tokens .entry)) (now (sums .entry)) (now (finals .entry)) (now (records .entry)) (now (labels .entry)) states side used counts max (now (order .exit)) r ⌝ }
 {
     let all = ranking::ranked(tokens, sums, finals, states, side, counts, keys, order);
@@ -245,6 +248,8 @@ fn list_states(
         labels,
         side,
         used,
+        history_keys,
+        history_skips,
         false,
         order,
         all,
@@ -277,19 +282,22 @@ pub fn alternatives(
     keys: &mut [u64],
     places: &mut [u32],
     order: &mut [u32],
+    history_keys: &mut [u64],
+    history_skips: &mut [u32],
     words: &mut [i32],
     frames: &mut [u32],
     segments: &mut [u32],
     ends: &mut [u32],
     costs: &mut [f32],
 ) -> Listed
-    requires { ⌜ AlternativesAsk (now tokens) (now sums) (now finals) (now records) (now labels) states side used (now keys) (now places) (now order) ⌝ }
+    requires { ⌜ (AlternativesAsk (now tokens) (now sums) (now finals) (now records) (now labels) states side used (now keys) (now places) (now order)) × (used * 2 ≤ length (now «history_keys»)) × (used * 2 ≤ length (now «history_skips»)) ⌝ }
     ensures { λ r. ⌜ AlternativesRight (now (tokens .entry)) (now (sums .entry)) (now (finals .entry)) (now (records .entry)) (now (labels .entry)) states side used n «use_final» max (outputs (now (words .entry)) (now (frames .entry)) (now (segments .entry)) (now (ends .entry)) (now (costs .entry))) (outputs (now (words .exit)) (now (frames .exit)) (now (segments .exit)) (now (ends .exit)) (now (costs .exit))) r ⌝ }
 {
     if 64 < max {
         return Listed::Refused(6);
     }
     let counts = traceback::finals_count(tokens, finals, states, side, use_final);
+    summaries::fill(records, labels, used, history_keys, history_skips);
     let k = list_states(
         tokens,
         sums,
@@ -299,6 +307,8 @@ pub fn alternatives(
         states,
         side,
         used,
+        history_keys,
+        history_skips,
         counts,
         max,
         keys,

@@ -29,9 +29,9 @@ readingsHere = 8192 ∷ 4096 ∷ 4096 ∷ 4096 ∷ 12288 ∷ []
 abbrev pub scratchHere : ℕ → List ℕ
 scratchHere k = k ∷ readingsHere
 
--- the places per record of its lists and its route
+-- the places per record of its lists, its route and the two of the histories
 abbrev pub recordsHere : List ℕ
-recordsHere = 8192 ∷ 8192 ∷ []
+recordsHere = 8192 ∷ 8192 ∷ 8192 ∷ 8192 ∷ []
 
 -- after an answer the decoder and its stores are as a call leaves them
 abbrev pub AnsweredLeft : (T : Tables) (m : Lent) (finals : List Float) (eps : List ℕ) (places : ℕ) (scratch perRecord : List ℕ) → Answered → Type 0
@@ -94,20 +94,21 @@ lent-scratch sc ks ns p q =
     let b = length-take-le 12288 ns (omega arith) in
     λ i. length sc ∷ sym p i ∷ a i ∷ a i ∷ a i ∷ b i ∷ []
 
-lent-records : (ns : List ℕ) → 16384 ≡ length ns → perRecordOf ns (take 8192 ns) ≡ recordsHere
-lent-records ns q =
+lent-records : (ns hs : List ℕ) → 16384 ≡ length ns → 16384 ≡ length hs → perRecordOf ns (take 8192 ns) hs ns ≡ recordsHere
+lent-records ns hs q p =
     let a = length-take-le 8192 ns (omega arith) in
     let h : length ns / 2 ≡ 8192 = omega arith in
-    λ i. h i ∷ a i ∷ []
+    let k : length hs / 2 ≡ 8192 = omega arith in
+    λ i. h i ∷ a i ∷ k i ∷ h i ∷ []
 
-pub fitted-next : (g : Graph) (T : Tables) (m m' : Lent) (sc : List Float) (ks ns : List ℕ) (n n' : ℕ) (eps eps' : List ℕ) (c : Config) (f : Fitted) (a : Answered) (d : Decoder) → FitIs g T m m' (scratchOf sc ks (take 4096 ns) (take 4096 ns) (take 4096 ns) (take 12288 ns)) (perRecordOf ns (take 8192 ns)) n eps eps' c f
-    → GoesFitted f a → a ≡ Answered.Next d → n' ≡ n → 8192 ≡ length ks → 16384 ≡ length ns → Held T m' (g .finals) eps' n' (scratchHere (length sc)) recordsHere d
-fitted-next g T m m' sc ks ns n n' eps eps' c f a d F o e p q s =
+pub fitted-next : (g : Graph) (T : Tables) (m m' : Lent) (sc : List Float) (ks ns hs : List ℕ) (n n' : ℕ) (eps eps' : List ℕ) (c : Config) (f : Fitted) (a : Answered) (d : Decoder) → FitIs g T m m' (scratchOf sc ks (take 4096 ns) (take 4096 ns) (take 4096 ns) (take 12288 ns)) (perRecordOf ns (take 8192 ns) hs ns) n eps eps' c f
+    → GoesFitted f a → a ≡ Answered.Next d → n' ≡ n → 8192 ≡ length ks → 16384 ≡ length ns → 16384 ≡ length hs → Held T m' (g .finals) eps' n' (scratchHere (length sc)) recordsHere d
+fitted-next g T m m' sc ks ns hs n n' eps eps' c f a d F o e p q s t =
     let k = scratchOf sc ks (take 4096 ns) (take 4096 ns) (take 4096 ns) (take 12288 ns) in
-    let j = perRecordOf ns (take 8192 ns) in
+    let j = perRecordOf ns (take 8192 ns) hs ns in
     let H = subst (AnsweredLeft T m' (g .finals) eps' n k j) e (fitted-left T m' (g .finals) eps' n k j f a o (fit-held g T m m' k j n eps eps' c f F)) in
     subst (λ (x : ℕ). Held T m' (g .finals) eps' x (scratchHere (length sc)) recordsHere d) (sym p)
-    (subst (λ (x : List ℕ). Held T m' (g .finals) eps' n (scratchHere (length sc)) x d) (lent-records ns s) (subst (λ (x : List ℕ). Held T m' (g .finals) eps' n x j d) (lent-scratch sc ks ns q s) H))
+    (subst (λ (x : List ℕ). Held T m' (g .finals) eps' n (scratchHere (length sc)) x d) (lent-records ns hs s t) (subst (λ (x : List ℕ). Held T m' (g .finals) eps' n x j d) (lent-scratch sc ks ns q s) H))
 
 -- slices that are as long as others
 pub record AsLong (tk tk' : List ℕ) (sm sm' : List Float) (rs rs' : List ℕ) (ls ls' : List ℤ) (gs gs' : List Float) (qs qs' : List ℕ) (sc sc' : List Float) : Type 0 where
@@ -119,10 +120,10 @@ pub record AsLong (tk tk' : List ℕ) (sm sm' : List Float) (rs rs' : List ℕ) 
   pub queue : length qs' ≡ length qs
   pub scratch : length sc' ≡ length sc
 
--- alternatives work in keys, places and own alone
+-- alternatives work in keys, places and own, and in the two of the histories
 pub alternatives-next : {T : Tables} {tk : List ℕ} {sm : List Float} {rs : List ℕ} {ls : List ℤ} {gs finals : List Float} {eps : List ℕ} {places : ℕ} {d : Decoder} (k : ℕ) → Held T (lent tk sm rs ls gs) finals eps places (scratchHere k) recordsHere d
-    → AlternativesLeft tk sm rs ls finals (8192 ∷ 4096 ∷ 4096 ∷ []) d
-alternatives-next k H = alternatives-left H (8192 ∷ 4096 ∷ 4096 ∷ []) among
+    → AlternativesLeft tk sm rs ls finals (8192 ∷ 4096 ∷ 4096 ∷ []) (8192 ∷ 8192 ∷ []) d
+alternatives-next k H = alternatives-left H (8192 ∷ 4096 ∷ 4096 ∷ []) (8192 ∷ 8192 ∷ []) among (λ j i. there (there i))
   where
     among : (j : ℕ) → List·Memᴰ j (8192 ∷ 4096 ∷ 4096 ∷ []) → List·Memᴰ j (scratchHere k)
     among j (here e) = there (here e)
@@ -130,6 +131,10 @@ alternatives-next k H = alternatives-left H (8192 ∷ 4096 ∷ 4096 ∷ []) amon
     among j (there (there (here e))) = there (there (there (here e)))
 
 -- in slices of as many places
-pub alternatives-lent : {tk : List ℕ} {sm : List Float} {rs : List ℕ} {ls : List ℤ} {finals : List Float} {d : Decoder} (keys places own : ℕ) → 8192 ≡ keys → 4096 ≡ places → 4096 ≡ own → AlternativesLeft tk sm rs ls finals (8192 ∷ 4096 ∷ 4096 ∷ []) d
-    → AlternativesLeft tk sm rs ls finals (keys ∷ places ∷ own ∷ []) d
-alternatives-lent {tk} {sm} {rs} {ls} {finals} {d} keys places own p q s = subst (λ (x : List ℕ). AlternativesLeft tk sm rs ls finals x d) (λ i. p i ∷ q i ∷ s i ∷ [])
+pub alternatives-lent : {tk : List ℕ} {sm : List Float} {rs : List ℕ} {ls : List ℤ} {finals : List Float} {d : Decoder} (keys places own history-keys history-skips : ℕ) → 8192 ≡ keys → 4096 ≡ places → 4096 ≡ own → 16384 ≡ history-keys → 16384 ≡ history-skips
+    → AlternativesLeft tk sm rs ls finals (8192 ∷ 4096 ∷ 4096 ∷ []) (8192 ∷ 8192 ∷ []) d → AlternativesLeft tk sm rs ls finals (keys ∷ places ∷ own ∷ []) (history-keys / 2 ∷ history-skips / 2 ∷ []) d
+alternatives-lent {tk} {sm} {rs} {ls} {finals} {d} keys places own history-keys history-skips p q s t u A =
+    let half-keys : 8192 ≡ history-keys / 2 = omega arith in
+    let half-skips : 8192 ≡ history-skips / 2 = omega arith in
+    subst (λ (y : List ℕ). AlternativesLeft tk sm rs ls finals (keys ∷ places ∷ own ∷ []) y d) (λ i. half-keys i ∷ half-skips i ∷ [])
+    (subst (λ (x : List ℕ). AlternativesLeft tk sm rs ls finals x (8192 ∷ 8192 ∷ []) d) (λ i. p i ∷ q i ∷ s i ∷ []) A)

@@ -37,9 +37,11 @@ pub readings-next : {T : Tables} {tk : List ℕ} {sm : List Float} {rs : List �
 readings-next k H = readings-left H readingsHere recordsHere (λ j i. there i) (λ j i. i)
 
 -- in slices of as many places
-pub readings-lent : {tk : List ℕ} {sm : List Float} {rs : List ℕ} {ls : List ℤ} {gs finals : List Float} {d : Decoder} (keys places own heads list lists route : ℕ) → 8192 ≡ keys → 4096 ≡ places → 4096 ≡ own → 4096 ≡ heads → 12288 ≡ list → 16384 ≡ lists → 8192 ≡ route
-    → ReadingsLeft tk sm rs ls gs finals readingsHere recordsHere d → ReadingsLeft tk sm rs ls gs finals (keys ∷ places ∷ own ∷ heads ∷ list ∷ []) (lists / 2 ∷ route ∷ []) d
-readings-lent {tk} {sm} {rs} {ls} {gs} {finals} {d} keys places own heads list lists route a b e f g h k R =
+pub readings-lent : {tk : List ℕ} {sm : List Float} {rs : List ℕ} {ls : List ℤ} {gs finals : List Float} {d : Decoder} (keys places own heads list lists route history-keys history-skips : ℕ) → 8192 ≡ keys → 4096 ≡ places → 4096 ≡ own → 4096 ≡ heads → 12288 ≡ list → 16384 ≡ lists → 8192 ≡ route → 16384 ≡ history-keys → 16384 ≡ history-skips
+    → ReadingsLeft tk sm rs ls gs finals readingsHere recordsHere d → ReadingsLeft tk sm rs ls gs finals (keys ∷ places ∷ own ∷ heads ∷ list ∷ []) (lists / 2 ∷ route ∷ history-keys / 2 ∷ history-skips / 2 ∷ []) d
+readings-lent {tk} {sm} {rs} {ls} {gs} {finals} {d} keys places own heads list lists route history-keys history-skips a b e f g h k m n R =
     let half : 8192 ≡ lists / 2 = omega arith in
-    subst (λ (y : List ℕ). ReadingsLeft tk sm rs ls gs finals (keys ∷ places ∷ own ∷ heads ∷ list ∷ []) y d) (λ i. half i ∷ k i ∷ [])
+    let half-keys : 8192 ≡ history-keys / 2 = omega arith in
+    let half-skips : 8192 ≡ history-skips / 2 = omega arith in
+    subst (λ (y : List ℕ). ReadingsLeft tk sm rs ls gs finals (keys ∷ places ∷ own ∷ heads ∷ list ∷ []) y d) (λ i. half i ∷ k i ∷ half-keys i ∷ half-skips i ∷ [])
     (subst (λ (x : List ℕ). ReadingsLeft tk sm rs ls gs finals x recordsHere d) (λ i. a i ∷ b i ∷ e i ∷ f i ∷ g i ∷ []) R)

@@ -710,6 +710,7 @@ fn fit_apart(
     let mut queue = queue_places();
     let scratch = cost_places();
     let keys = key_places();
+    let history_keys = history_key_places();
     let all = list_places();
     let numbers: &[u32] = &all;
     let mut eps = eps_places();
@@ -732,6 +733,8 @@ fn fit_apart(
         &numbers[..12288],
         numbers,
         &numbers[..8192],
+        &history_keys,
+        numbers,
         &mut eps[..p],
         offsets,
         ilabels,
@@ -839,6 +842,7 @@ fn fit(
     ensures { λ t. ⌜ Behind (now (calls .entry)) (r .start + r .count) t ⌝ }
 {
     let keys = key_places();
+    let history_keys = history_key_places();
     let all = list_places();
     let numbers: &[u32] = &all;
     let fitted = decoder::fit(
@@ -856,6 +860,8 @@ fn fit(
         &numbers[..12288],
         numbers,
         &numbers[..8192],
+        &history_keys,
+        numbers,
         eps,
         offsets,
         ilabels,
@@ -1396,7 +1402,7 @@ fn alternatives(
     d: Decoder,
 ) -> Answered
     requires { ⌜ Inside (now calls) r ⌝ }
-    requires { ⌜ AlternativesLeft (now tokens) (now sums) (now records) (now labels) (now finals) (8192 ∷ 4096 ∷ 4096 ∷ []) d ⌝ }
+    requires { ⌜ AlternativesLeft (now tokens) (now sums) (now records) (now labels) (now finals) (8192 ∷ 4096 ∷ 4096 ∷ []) (8192 ∷ 8192 ∷ []) d ⌝ }
     ensures { λ t. ⌜ NextIs d t ⌝ }
 {
     if !alternatives_shaped(calls, r) {
@@ -1445,7 +1451,7 @@ fn answer_alternatives(
     costs: &mut [f32],
 ) -> Answered
     requires { ⌜ Inside (now calls) r ⌝ }
-    requires { ⌜ AlternativesLeft (now tokens) (now sums) (now records) (now labels) (now finals) (8192 ∷ 4096 ∷ 4096 ∷ []) d ⌝ }
+    requires { ⌜ AlternativesLeft (now tokens) (now sums) (now records) (now labels) (now finals) (8192 ∷ 4096 ∷ 4096 ∷ []) (8192 ∷ 8192 ∷ []) d ⌝ }
     ensures { λ t. ⌜ NextIs d t ⌝ }
 {
     let use_final = word_at(calls, r.start) == 1;
@@ -1453,6 +1459,8 @@ fn answer_alternatives(
     let mut keys = key_places();
     let mut places = state_places();
     let mut own = state_places();
+    let mut history_keys = history_key_places();
+    let mut history_skips = list_places();
     match decoder::alternatives(
         tokens,
         sums,
@@ -1465,6 +1473,8 @@ fn answer_alternatives(
         &mut keys,
         &mut places,
         &mut own,
+        &mut history_keys,
+        &mut history_skips,
         words,
         frames,
         segments,
@@ -1713,6 +1723,8 @@ fn list_readings(
     let mut heads = state_places();
     let mut lists = list_places();
     let mut route = route_places();
+    let mut history_keys = history_key_places();
+    let mut history_skips = list_places();
     let mut hashes = entry_hash_places();
     let mut nexts = entry_next_places();
     let mut gains = entry_sum_places();
@@ -1739,6 +1751,8 @@ fn list_readings(
         &mut list,
         &mut lists,
         &mut route,
+        &mut history_keys,
+        &mut history_skips,
         &mut hashes[..s.below],
         &mut nexts,
         &mut gains,
@@ -2273,7 +2287,13 @@ fn list_costs() -> [f32; 64]
     [0.0; 64]
 }
 
-// For readings: two numbers for each record, and a place for each on a route.
+// For readings: two numbers for each record, three times, and a place for each on a route.
+fn history_key_places() -> [u64; 16384]
+    ensures { λ t. ⌜ 16384 ≡ length t ⌝ }
+{
+    [0; 16384]
+}
+
 fn list_places() -> [u32; 16384]
     ensures { λ t. ⌜ 16384 ≡ length t ⌝ }
 {

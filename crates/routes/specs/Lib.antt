@@ -1,6 +1,7 @@
 -- Words along routes, and routes of entries.
 pub mod Back
 pub mod Words
+pub mod Skips
 pub mod Before
 pub mod Written
 pub mod Entries

@@ -12,9 +12,8 @@ use Rattle.model.specs.Basics.{nonzero}
 use Rattle.model.specs.Ints.{eqℤ-no, eqℤ-refl}
 use Rattle.model.specs.Path.{withWord, sameWords}
 use Rattle.traceback.specs.declared.Step.{Step}
-use Rattle.traceback.specs.declared.Size.{Size}
 use Rattle.traceback.specs.Trail.{Trail, noTrail}
-use Rattle.traceback.specs.Chain.{ownStep, keptStep, takesKept, stepOf, tell, chainTrail, trailFrom, Walkable, SizeIs}
+use Rattle.traceback.specs.Chain.{ownStep, keptStep, takesKept, stepOf, tell, chainTrail, trailFrom, Walkable}
 use Rattle.traceback.specs.Walk.{step-low}
 use Rattle.routes.specs.declared.Word.{Word}
 use Rattle.routes.specs.Back.{backBy, backAlong, NextOn, ended, aWord, Skipped}
@@ -59,9 +58,9 @@ module _ (rs : List ℕ) (ls : List ℤ) (route : List ℕ) where
   pub back-trail : (n r : ℕ) → reverse (backAlong rs ls route r) ≡ trailFrom rs ls route n r noTrail .words
   back-trail n r = sym (chain-back n r r noTrail)
 
-  -- so `traceback::measure` counts them
-  pub back-many : (n r : ℕ) {used : ℕ} {z : Size} → SizeIs (trailFrom rs ls route n r noTrail) used z → z .words ≡ length (backAlong rs ls route r)
-  back-many n r i = i .words ∙ ap length (sym (back-trail n r)) ∙ length-reverse (backAlong rs ls route r)
+  -- so a trace has as many
+  pub back-many : (n r : ℕ) → length (trailFrom rs ls route n r noTrail .words) ≡ length (backAlong rs ls route r)
+  back-many n r = ap length (sym (back-trail n r)) ∙ length-reverse (backAlong rs ls route r)
 
   pub back-none : backAlong rs ls route 0 ≡ []
   unfolding backBy

@@ -7,6 +7,7 @@ ghost use lib.ListN.{length};
 ghost use Rattle.model.specs.Basics.{eqℤ, ltℤ};
 ghost use Rattle.model.specs.Path.{sameWords};
 ghost use Rattle.model.specs.Readings.{wordsLt};
+ghost use Rattle.summaries.specs.Summed.{Skips};
 ghost use Rattle.traceback.specs.Chain.{Walkable};
 ghost use Rattle.routes.specs.Back.{backAlong, NextOn, Skipped, WordsWritten};
 ghost use Rattle.routes.specs.Before.{beforeBy};
@@ -156,23 +157,61 @@ pub fn words_before(
     before_along(records, labels, used, p, ra, q, rb, m < n)
 }
 
+// How many words there are.
+pub fn count_words(
+    records: &[u32],
+    labels: &[i32],
+    route: &[u32],
+    used: u32,
+    history_skips: &[u32],
+    link: u32,
+) -> u32
+    requires { ⌜ (Walkable (now records) (now labels) used) × (link ≤ used) × (Skips (now records) (now labels) used used (now «history_skips»)) ⌝ }
+    ensures { λ n. ⌜ n ≡ length (backAlong (now (records .entry)) (now (labels .entry)) (now (route .entry)) link) ⌝ }
+{
+    let mut r = link;
+    let mut n = 0;
+    loop {
+        let x = next_on(
+            records,
+            labels,
+            route,
+            used,
+            summaries::skip_at(history_skips, r),
+        );
+        let word = x.word;
+        if word == 0 {
+            return n;
+        }
+        n += 1;
+        r = x.next;
+    }
+}
+
 // Writes the words, n of them, to the front, oldest first.
 pub fn write_words(
     records: &[u32],
     labels: &[i32],
     route: &[u32],
     used: u32,
+    history_skips: &[u32],
     link: u32,
     n: u32,
     words: &mut [i32],
 )
-    requires { ⌜ (Walkable (now records) (now labels) used) × (link ≤ used) × (n ≡ length (backAlong (now records) (now labels) (now route) link)) × (n ≤ length (now words)) ⌝ }
+    requires { ⌜ (Walkable (now records) (now labels) used) × (link ≤ used) × (n ≡ length (backAlong (now records) (now labels) (now route) link)) × (n ≤ length (now words)) × (Skips (now records) (now labels) used used (now «history_skips»)) ⌝ }
     ensures { λ _. ⌜ WordsWritten (backAlong (now (records .entry)) (now (labels .entry)) (now (route .entry)) link) n (now (words .entry)) (now (words .exit)) ⌝ }
 {
     let mut r = link;
     let mut k = n as usize;
     while 0 < k {
-        let x = next_on(records, labels, route, used, r);
+        let x = next_on(
+            records,
+            labels,
+            route,
+            used,
+            summaries::skip_at(history_skips, r),
+        );
         k -= 1;
         let word = x.word;
         words[k] = word;

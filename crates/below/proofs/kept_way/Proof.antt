@@ -10,26 +10,26 @@ use Rattle.below.proofs.kept_way.Tie as tie
 kept-of-requires : tie.Need-kept-of-requires
 kept-of-requires c κs = let w = c .before .before .before .pre .0 .records in let v = c .before .before .before .pre .0 .labels in search needs
 
-end-of-requires : tie.Need-end-of-requires
-end-of-requires c κs = (record { records = c .before .before .before .before .pre .0 .records; labels = c .before .before .before .before .pre .0 .labels; prev-low = c .before .before .before .before .pre .0 .prev-low }, let z = c .before .before .before .before .pre .0 .kept-low (c .before .before .before .before .args .r - 1) (omega arith) in let e = c .kept-of .ensures in omega arith)
+first-join-requires : tie.Need-first-join-requires
+first-join-requires c κs = (record { records = c .before .before .before .before .pre .0 .records; labels = c .before .before .before .before .pre .0 .labels; prev-low = c .before .before .before .before .pre .0 .prev-low }, let z = c .before .before .before .before .pre .0 .kept-low (c .before .before .before .before .args .r - 1) (omega arith) in let e = c .kept-of .ensures in omega arith)
 
 hash-above-requires : tie.Need-hash-above-requires
-hash-above-requires c κs = (record { records = c .before .before .before .before .before .pre .0 .records; labels = c .before .before .before .before .before .pre .0 .labels; prev-low = c .before .before .before .before .before .pre .0 .prev-low }, (let z = c .before .before .before .before .before .pre .0 .kept-low (c .before .before .before .before .before .args .r - 1) (omega arith) in let e = c .before .kept-of .ensures in omega arith), let z = c .before .before .before .before .before .pre .0 .kept-low (c .before .before .before .before .before .args .r - 1) (omega arith) in let e = c .before .kept-of .ensures in let l = c .end-of .ensures .low in omega arith)
+hash-above-requires c κs = (record { records = c .before .before .before .before .before .pre .0 .records; labels = c .before .before .before .before .before .pre .0 .labels; prev-low = c .before .before .before .before .before .pre .0 .prev-low }, (let z = c .before .before .before .before .before .pre .0 .kept-low (c .before .before .before .before .before .args .r - 1) (omega arith) in let e = c .before .kept-of .ensures in omega arith), let z = c .before .before .before .before .before .pre .0 .kept-low (c .before .before .before .before .before .args .r - 1) (omega arith) in let e = c .before .kept-of .ensures in let l = c .first-join .ensures .low in omega arith)
 
 kept-word-of-requires : tie.Need-kept-word-of-requires
 kept-word-of-requires c κs = let w = c .before .before .before .before .before .before .pre .0 .records in let v = c .before .before .before .before .before .before .pre .0 .labels in search needs
 
 with-word-requires : tie.Need-with-word-requires
-with-word-requires c κs = let z = c .before .before .before .before .before .before .before .pre .0 .kept-low (c .before .before .before .before .before .before .before .args .r - 1) (omega arith) in let e = c .before .before .before .kept-of .ensures in let l = c .before .hash-above .ensures .low (c .before .before .end-of .ensures .low) in let f = c .before .before .before .before .before .before .before .pre .0 .few in omega arith
+with-word-requires c κs = let z = c .before .before .before .before .before .before .before .pre .0 .kept-low (c .before .before .before .before .before .before .before .args .r - 1) (omega arith) in let e = c .before .before .before .kept-of .ensures in let l = c .before .hash-above .ensures .low (c .before .before .first-join .ensures .low) in let f = c .before .before .before .before .before .before .before .pre .0 .few in omega arith
 
 cost-of-requires : tie.Need-cost-of-requires
 cost-of-requires c κs = let w = c .before .before .before .before .before .before .before .before .pre .0 .records in let v = c .before .before .before .before .before .before .before .before .pre .0 .labels in search needs
 
 first-of-requires : tie.Need-first-of-requires
-first-of-requires c κs = let z = c .before .before .before .before .before .before .before .before .before .pre .0 .kept-low (c .before .before .before .before .before .before .before .before .before .args .r - 1) (omega arith) in let e = c .before .before .before .before .before .kept-of .ensures in let l = c .before .before .before .before .end-of .ensures .low in omega arith
+first-of-requires c κs = let z = c .before .before .before .before .before .before .before .before .before .pre .0 .kept-low (c .before .before .before .before .before .before .before .before .before .args .r - 1) (omega arith) in let e = c .before .before .before .before .before .kept-of .ensures in let l = c .before .before .before .before .first-join .ensures .low in omega arith
 
 count-within-requires : tie.Need-count-within-requires
-count-within-requires c κs = let z = c .before .before .before .before .before .before .before .before .before .before .pre .0 .kept-low (c .before .before .before .before .before .before .before .before .before .before .args .r - 1) (omega arith) in let e = c .before .before .before .before .before .before .kept-of .ensures in let l = c .before .before .before .before .before .end-of .ensures .low in omega arith
+count-within-requires c κs = let z = c .before .before .before .before .before .before .before .before .before .before .pre .0 .kept-low (c .before .before .before .before .before .before .before .before .before .before .args .r - 1) (omega arith) in let e = c .before .before .before .before .before .before .kept-of .ensures in let l = c .before .before .before .before .before .first-join .ensures .low in omega arith
 
 sub-t16 : tie.Need-sub-t16
 sub-t16 c = let w = c .before .before .before .before .before .before .before .before .before .before .before .pre .0 .records in let v = c .before .before .before .before .before .before .before .before .before .before .before .pre .0 .labels in search needs
@@ -50,14 +50,14 @@ shared-slice-read-t22 : tie.Need-shared-slice-read-t22
 shared-slice-read-t22 c = let w = c .before .before .before .before .before .before .before .before .before .before .before .before .pre .0 .records in let v = c .before .before .before .before .before .before .before .before .before .before .before .before .pre .0 .labels in search needs
 
 returns : tie.Need-returns
-returns c = kept-reach (c .before .before .before .before .before .before .before .before .before .before .before .before .pre .0) (c .before .before .before .before .before .before .before .before .before .before .before .before .pre .2) (c .before .before .before .before .before .before .before .before .before .before .before .before .pre .3) (c .before .before .before .before .before .before .before .before .kept-of .ensures) (c .before .before .before .before .before .before .before .end-of .ensures) (c .before .before .before .before .before .before .hash-above .ensures) (c .before .before .before .before .before .kept-word-of .ensures) (back (c .before .before .before .before .before .kept-word-of .result) (c .before .before .before .before .before .kept-word-of .ok)) (c .before .before .before .before .with-word .ensures) (c .before .before .first-of .ensures) (c .before .before .before .cost-of .ensures) (c .before .count-within .ensures)
+returns c = kept-reach (c .before .before .before .before .before .before .before .before .before .before .before .before .pre .0) (c .before .before .before .before .before .before .before .before .before .before .before .before .pre .2) (c .before .before .before .before .before .before .before .before .before .before .before .before .pre .3) (c .before .before .before .before .before .before .before .before .kept-of .ensures) (c .before .before .before .before .before .before .before .first-join .ensures) (c .before .before .before .before .before .before .hash-above .ensures) (c .before .before .before .before .before .kept-word-of .ensures) (back (c .before .before .before .before .before .kept-word-of .result) (c .before .before .before .before .before .kept-word-of .ok)) (c .before .before .before .before .with-word .ensures) (c .before .before .first-of .ensures) (c .before .before .before .cost-of .ensures) (c .before .count-within .ensures)
 
 pub kept-way-spec : {M : Type 1} → statement M
 kept-way-spec =
     tie.close
     (tie.spec
     kept-of-requires
-    end-of-requires
+    first-join-requires
     hash-above-requires
     kept-word-of-requires
     with-word-requires

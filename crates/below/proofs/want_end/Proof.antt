@@ -4,17 +4,17 @@ use native.Mathlib.Omega.{arith}
 use Rattle.below.proofs.want_end.Statement.{statement}
 use Rattle.below.proofs.want_end.Tie as tie
 
-end-of-requires : tie.Need-end-of-requires
-end-of-requires c κs = (c .before .before .before .pre .0, c .before .before .before .pre .1)
+first-join-requires : tie.Need-first-join-requires
+first-join-requires c κs = (c .before .before .before .pre .0, c .before .before .before .pre .1)
 
 want-requires : tie.Need-want-requires
-want-requires c κs = let z = c .end-of .ensures .low in omega arith
+want-requires c κs = let z = c .first-join .ensures .low in omega arith
 
 same-length : tie.Need-same-length
 same-length c = c .before .before .want .kept .0
 
 returns : tie.Need-returns
-returns c = end-wanted _ _ (c .before .before .before .before .before .before .before .pre .1) (c .before .before .before .end-of .ensures) (c .before .before .want .ensures)
+returns c = end-wanted _ _ (c .before .before .before .before .before .before .before .pre .1) (c .before .before .before .first-join .ensures) (c .before .before .want .ensures)
 
 pub want-end-spec : {M : Type 1} → statement M
-want-end-spec = tie.close (tie.spec end-of-requires want-requires same-length returns)
+want-end-spec = tie.close (tie.spec first-join-requires want-requires same-length returns)

@@ -7,7 +7,8 @@ use Rattle.records.specs.History.{History}
 use Rattle.records.specs.Layout.{store}
 use Rattle.records.specs.Stands.{Stands}
 use Rattle.histories.specs.Reading.{joinTag}
-use Rattle.histories.proofs.Steps.{join-at, link-at, at-start}
+use Rattle.histories.specs.Laws.{join-at, link-at}
+use Rattle.histories.proofs.Steps.{at-start}
 use borrow.Author.Needs.{needs}
 use native.Mathlib.Omega.{arith}
 use Rattle.histories.proofs.first_join.Statement.{statement}

@@ -49,6 +49,12 @@ slice-aggregate-fit-14 c = search needs
 slice-aggregate-fit-15 : tie.Need-slice-aggregate-fit-15
 slice-aggregate-fit-15 c = search needs
 
+slice-aggregate-fit-16 : tie.Need-slice-aggregate-fit-16
+slice-aggregate-fit-16 c = search needs
+
+slice-aggregate-fit-17 : tie.Need-slice-aggregate-fit-17
+slice-aggregate-fit-17 c = search needs
+
 config-requires : tie.Need-config-requires
 config-requires c κs = search needs
 
@@ -107,4 +113,42 @@ returns-3 : tie.Need-returns-3
 returns-3 c = search needs
 
 pub listen-spec : {M : Type 1} → statement M
-listen-spec = tie.close (tie.spec slice-aggregate-fit slice-aggregate-fit-2 slice-aggregate-fit-3 slice-aggregate-fit-4 slice-aggregate-fit-5 slice-aggregate-fit-6 slice-aggregate-fit-7 slice-aggregate-fit-8 slice-aggregate-fit-9 slice-aggregate-fit-10 slice-aggregate-fit-11 slice-aggregate-fit-12 slice-aggregate-fit-13 slice-aggregate-fit-14 slice-aggregate-fit-15 config-requires fit-requires enum-known-why write-refusal-requires enum-known-why-2 write-refusal-requires-2 enum-known-d slice-aggregate-hear-frames slice-aggregate-hear-frames-2 slice-aggregate-hear-frames-3 slice-aggregate-hear-frames-4 slice-aggregate-hear-frames-5 slice-aggregate-hear-frames-6 slice-aggregate-hear-frames-7 slice-aggregate-hear-frames-8 hear-frames-requires returns returns-2 returns-3)
+listen-spec =
+    tie.close
+    (tie.spec
+    slice-aggregate-fit
+    slice-aggregate-fit-2
+    slice-aggregate-fit-3
+    slice-aggregate-fit-4
+    slice-aggregate-fit-5
+    slice-aggregate-fit-6
+    slice-aggregate-fit-7
+    slice-aggregate-fit-8
+    slice-aggregate-fit-9
+    slice-aggregate-fit-10
+    slice-aggregate-fit-11
+    slice-aggregate-fit-12
+    slice-aggregate-fit-13
+    slice-aggregate-fit-14
+    slice-aggregate-fit-15
+    slice-aggregate-fit-16
+    slice-aggregate-fit-17
+    config-requires
+    fit-requires
+    enum-known-why
+    write-refusal-requires
+    enum-known-why-2
+    write-refusal-requires-2
+    enum-known-d
+    slice-aggregate-hear-frames
+    slice-aggregate-hear-frames-2
+    slice-aggregate-hear-frames-3
+    slice-aggregate-hear-frames-4
+    slice-aggregate-hear-frames-5
+    slice-aggregate-hear-frames-6
+    slice-aggregate-hear-frames-7
+    slice-aggregate-hear-frames-8
+    hear-frames-requires
+    returns
+    returns-2
+    returns-3)

@@ -5,10 +5,10 @@ use Rattle.listing.proofs.list_heads.Statement.{statement}
 use Rattle.listing.proofs.list_heads.Tie as tie
 
 firsts-requires : tie.Need-firsts-requires
-firsts-requires c κs = (heads-states (c .before .before .before .before .before .before .before .before .before .before .pre), c .before .before .before .before .before .before .before .before .before .before .pre .keys-long, c .before .before .before .before .before .before .before .before .before .before .pre .places-long)
+firsts-requires c κs = (heads-states (c .before .before .before .before .before .before .before .before .before .before .before .before .pre .0), c .before .before .before .before .before .before .before .before .before .before .before .before .pre .0 .keys-long, c .before .before .before .before .before .before .before .before .before .before .before .before .pre .0 .places-long, c .before .before .before .before .before .before .before .before .before .before .before .before .pre .1 .keys, c .before .before .before .before .before .before .before .before .before .before .before .before .pre .1 .skips)
 
 keep-heads-requires : tie.Need-keep-heads-requires
-keep-heads-requires c κs = heads-ask (c .before .before .before .before .before .before .before .before .before .before .before .before .before .before .before .before .before .before .pre) (c .before .before .before .before .before .before .before .firsts .ensures) (c .before .before .before .before .before .before .before .firsts .kept .1 .1 .1 .1 .1 .1 .0)
+keep-heads-requires c κs = heads-ask (c .before .before .before .before .before .before .before .before .before .before .before .before .before .before .before .before .before .before .before .before .pre .0) (c .before .before .before .before .before .before .before .firsts .ensures) (c .before .before .before .before .before .before .before .firsts .kept .1 .1 .1 .1 .1 .1 .1 .1 .0)
 
 same-length : tie.Need-same-length
 same-length c = search needs

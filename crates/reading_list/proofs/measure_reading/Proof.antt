@@ -12,20 +12,20 @@ link-at-requires c κs = search needs
 route-of-requires : tie.Need-route-of-requires
 route-of-requires c κs = search needs
 
-slice-reshare-prefix-measure : tie.Need-slice-reshare-prefix-measure
-slice-reshare-prefix-measure c = search needs
+slice-reshare-prefix-measure-path : tie.Need-slice-reshare-prefix-measure-path
+slice-reshare-prefix-measure-path c = search needs
 
-slice-aggregate-measure : tie.Need-slice-aggregate-measure
-slice-aggregate-measure c = sym (length-take-le _ _ (c .before .before .before .route-of .ensures .few))
+slice-aggregate-measure-path : tie.Need-slice-aggregate-measure-path
+slice-aggregate-measure-path c = sym (length-take-le _ _ (c .before .before .before .route-of .ensures .few))
 
-measure-requires : tie.Need-measure-requires
-measure-requires c κs = search needs
+measure-path-requires : tie.Need-measure-path-requires
+measure-path-requires c κs = search needs
 
 same-length : tie.Need-same-length
 same-length c = search needs
 
 returns : tie.Need-returns
-returns c = size-of (c .before .before .before .before .before .before .before .before .before .before .before .args .tokens .now) (c .before .before .before .before .before .before .before .before .before .before .before .args .records .now) (c .before .before .before .before .before .before .before .before .before .before .before .args .labels .now) (c .before .before .before .before .before .before .before .before .before .before .before .args .nexts .now) (c .before .before .before .before .before .before .before .before .before .before .before .args .side) (c .before .before .before .before .before .before .before .before .before .before .before .args .n) (c .before .before .before .before .before .before .before .before .before .before .before .args .g) (c .before .before .before .before .route-of .ensures) (c .before .before .before .before .before .before .link-at .ensures) (c .measure .ensures)
+returns c = size-of (c .before .before .before .before .before .before .before .before .before .before .before .before .args .tokens .now) (c .before .before .before .before .before .before .before .before .before .before .before .before .args .records .now) (c .before .before .before .before .before .before .before .before .before .before .before .before .args .labels .now) (c .before .before .before .before .before .before .before .before .before .before .before .before .args .nexts .now) (c .before .before .before .before .before .before .before .before .before .before .before .before .args .side) (c .before .before .before .before .before .before .before .before .before .before .before .before .args .n) (c .before .before .before .before .before .before .before .before .before .before .before .before .args .g) (c .before .before .before .before .route-of .ensures) (c .before .before .before .before .before .before .link-at .ensures) (c .measure-path .ensures)
 
 pub measure-reading-spec : {M : Type 1} → statement M
 measure-reading-spec =
@@ -33,8 +33,8 @@ measure-reading-spec =
     (tie.spec
     link-at-requires
     route-of-requires
-    slice-reshare-prefix-measure
-    slice-aggregate-measure
-    measure-requires
+    slice-reshare-prefix-measure-path
+    slice-aggregate-measure-path
+    measure-path-requires
     same-length
     returns)

@@ -26,6 +26,12 @@ state-places-requires c κs = search needs
 state-places-requires-2 : tie.Need-state-places-requires-2
 state-places-requires-2 c κs = search needs
 
+history-key-places-requires : tie.Need-history-key-places-requires
+history-key-places-requires c κs = search needs
+
+list-places-requires : tie.Need-list-places-requires
+list-places-requires c κs = search needs
+
 slice-aggregate-alternatives : tie.Need-slice-aggregate-alternatives
 slice-aggregate-alternatives c = search needs
 
@@ -35,14 +41,20 @@ slice-aggregate-alternatives-2 c = search needs
 slice-aggregate-alternatives-3 : tie.Need-slice-aggregate-alternatives-3
 slice-aggregate-alternatives-3 c = search needs
 
+slice-aggregate-alternatives-4 : tie.Need-slice-aggregate-alternatives-4
+slice-aggregate-alternatives-4 c = search needs
+
+slice-aggregate-alternatives-5 : tie.Need-slice-aggregate-alternatives-5
+slice-aggregate-alternatives-5 c = search needs
+
 alternatives-requires : tie.Need-alternatives-requires
-alternatives-requires c κs = alternatives-lent _ _ _ (c .before .before .before .before .before .before .before .before .before .before .key-places .ensures) (c .before .before .before .before .before .before .before .before .before .state-places .ensures) (c .before .before .before .before .before .before .before .before .state-places2 .ensures) (c .before .before .before .before .before .before .before .before .before .before .before .before .before .before .before .before .before .before .before .before .before .before .before .pre .1)
+alternatives-requires c κs = alternatives-lent _ _ _ _ _ (c .before .before .before .before .before .before .before .before .before .before .before .before .before .before .key-places .ensures) (c .before .before .before .before .before .before .before .before .before .before .before .before .before .state-places .ensures) (c .before .before .before .before .before .before .before .before .before .before .before .before .state-places2 .ensures) (c .before .before .before .before .before .before .before .before .before .before .before .history-key-places .ensures) (c .before .before .before .before .before .before .before .before .before .before .list-places .ensures) (c .before .before .before .before .before .before .before .before .before .before .before .before .before .before .before .before .before .before .before .before .before .before .before .before .before .before .before .pre .1)
 
 enum-known-number : tie.Need-enum-known-number
 enum-known-number c = search needs
 
 say-unlisted-requires : tie.Need-say-unlisted-requires
-say-unlisted-requires c κs = c .before .before .before .before .before .before .before .before .before .before .before .before .before .before .before .before .before .before .before .before .before .before .before .before .before .before .before .before .before .before .before .before .before .before .before .before .before .before .before .pre .0
+say-unlisted-requires c κs = c .before .before .before .before .before .before .before .before .before .before .before .before .before .before .before .before .before .before .before .before .before .before .before .before .before .before .before .before .before .before .before .before .before .before .before .before .before .before .before .before .before .before .before .before .before .pre .0
 
 enum-known-k : tie.Need-enum-known-k
 enum-known-k c = search needs
@@ -100,9 +112,13 @@ answer-alternatives-spec =
     key-places-requires
     state-places-requires
     state-places-requires-2
+    history-key-places-requires
+    list-places-requires
     slice-aggregate-alternatives
     slice-aggregate-alternatives-2
     slice-aggregate-alternatives-3
+    slice-aggregate-alternatives-4
+    slice-aggregate-alternatives-5
     alternatives-requires
     enum-known-number
     say-unlisted-requires

@@ -30,6 +30,9 @@ cost-places-requires c κs = search needs
 key-places-requires : tie.Need-key-places-requires
 key-places-requires c κs = search needs
 
+history-key-places-requires : tie.Need-history-key-places-requires
+history-key-places-requires c κs = search needs
+
 list-places-requires : tie.Need-list-places-requires
 list-places-requires c κs = search needs
 
@@ -49,7 +52,7 @@ array-borrow-prefix-tokens : tie.Need-array-borrow-prefix-tokens
 array-borrow-prefix-tokens c = search needs
 
 slice-aggregate-fit : tie.Need-slice-aggregate-fit
-slice-aggregate-fit c = sym (length-take-le _ _ (omega (arith, c .before .loan-of .ensures .0, c .before .before .before .before .before .before .before .before .before .before .before .before .token-places .ensures)))
+slice-aggregate-fit c = sym (length-take-le _ _ (omega (arith, c .before .loan-of .ensures .0, c .before .before .before .before .before .before .before .before .before .before .before .before .before .token-places .ensures)))
 
 mul-sums : tie.Need-mul-sums
 mul-sums c = search needs
@@ -58,7 +61,7 @@ array-borrow-prefix-sums : tie.Need-array-borrow-prefix-sums
 array-borrow-prefix-sums c = search needs
 
 slice-aggregate-fit-2 : tie.Need-slice-aggregate-fit-2
-slice-aggregate-fit-2 c = sym (length-take-le _ _ (omega (arith, c .before .before .loan-of .ensures .0, c .before .before .before .before .before .before .before .before .before .before .before .before .sum-places .ensures)))
+slice-aggregate-fit-2 c = sym (length-take-le _ _ (omega (arith, c .before .before .loan-of .ensures .0, c .before .before .before .before .before .before .before .before .before .before .before .before .before .sum-places .ensures)))
 
 mul-records : tie.Need-mul-records
 mul-records c = search needs
@@ -67,7 +70,7 @@ array-borrow-prefix-records : tie.Need-array-borrow-prefix-records
 array-borrow-prefix-records c = search needs
 
 slice-aggregate-fit-3 : tie.Need-slice-aggregate-fit-3
-slice-aggregate-fit-3 c = sym (length-take-le _ _ (omega (arith, c .before .before .before .loan-of .ensures .1, c .before .before .before .before .before .before .before .before .before .before .before .before .record-places .ensures)))
+slice-aggregate-fit-3 c = sym (length-take-le _ _ (omega (arith, c .before .before .before .loan-of .ensures .1, c .before .before .before .before .before .before .before .before .before .before .before .before .before .record-places .ensures)))
 
 mul-labels : tie.Need-mul-labels
 mul-labels c = search needs
@@ -76,7 +79,7 @@ array-borrow-prefix-labels : tie.Need-array-borrow-prefix-labels
 array-borrow-prefix-labels c = search needs
 
 slice-aggregate-fit-4 : tie.Need-slice-aggregate-fit-4
-slice-aggregate-fit-4 c = sym (length-take-le _ _ (omega (arith, c .before .before .before .before .loan-of .ensures .1, c .before .before .before .before .before .before .before .before .before .before .before .before .word-places .ensures)))
+slice-aggregate-fit-4 c = sym (length-take-le _ _ (omega (arith, c .before .before .before .before .loan-of .ensures .1, c .before .before .before .before .before .before .before .before .before .before .before .before .before .word-places .ensures)))
 
 mul-gaps : tie.Need-mul-gaps
 mul-gaps c = search needs
@@ -85,19 +88,19 @@ array-borrow-prefix-gaps : tie.Need-array-borrow-prefix-gaps
 array-borrow-prefix-gaps c = search needs
 
 slice-aggregate-fit-5 : tie.Need-slice-aggregate-fit-5
-slice-aggregate-fit-5 c = sym (length-take-le _ _ (omega (arith, c .before .before .before .before .before .loan-of .ensures .1, c .before .before .before .before .before .before .before .before .before .before .before .before .gap-places .ensures)))
+slice-aggregate-fit-5 c = sym (length-take-le _ _ (omega (arith, c .before .before .before .before .before .loan-of .ensures .1, c .before .before .before .before .before .before .before .before .before .before .before .before .before .gap-places .ensures)))
 
 array-borrow-prefix-queue : tie.Need-array-borrow-prefix-queue
 array-borrow-prefix-queue c = search needs
 
 slice-aggregate-fit-6 : tie.Need-slice-aggregate-fit-6
-slice-aggregate-fit-6 c = sym (length-take-le _ _ (omega (arith, c .before .before .before .before .before .before .loan-of .ensures .2, c .before .before .before .before .before .before .before .before .before .before .before .before .queue-places .ensures)))
+slice-aggregate-fit-6 c = sym (length-take-le _ _ (omega (arith, c .before .before .before .before .before .before .loan-of .ensures .2, c .before .before .before .before .before .before .before .before .before .before .before .before .before .queue-places .ensures)))
 
 array-share-prefix-scratch : tie.Need-array-share-prefix-scratch
 array-share-prefix-scratch c = search needs
 
 slice-aggregate-fit-7 : tie.Need-slice-aggregate-fit-7
-slice-aggregate-fit-7 c = sym (length-take-le _ _ (omega (arith, c .before .before .before .before .before .before .before .loan-of .ensures .0, c .before .before .before .before .before .before .before .before .before .before .before .before .cost-places .ensures)))
+slice-aggregate-fit-7 c = sym (length-take-le _ _ (omega (arith, c .before .before .before .before .before .before .before .loan-of .ensures .0, c .before .before .before .before .before .before .before .before .before .before .before .before .before .cost-places .ensures)))
 
 slice-aggregate-fit-8 : tie.Need-slice-aggregate-fit-8
 slice-aggregate-fit-8 c = search needs
@@ -117,14 +120,17 @@ slice-aggregate-fit-12 c = sym (length-take-le 12288 (c .before .before .before 
 slice-aggregate-fit-13 : tie.Need-slice-aggregate-fit-13
 slice-aggregate-fit-13 c = sym (length-take-le 8192 (c .before .before .before .before .before .before .before .before .before .before .before .before .before .before .before .before .list-places .result) (omega (arith, c .before .before .before .before .before .before .before .before .before .before .before .before .before .before .before .before .list-places .ensures)))
 
+slice-aggregate-fit-14 : tie.Need-slice-aggregate-fit-14
+slice-aggregate-fit-14 c = search needs
+
 array-borrow-prefix-eps : tie.Need-array-borrow-prefix-eps
 array-borrow-prefix-eps c = search needs
 
-slice-aggregate-fit-14 : tie.Need-slice-aggregate-fit-14
-slice-aggregate-fit-14 c = sym (length-take-le _ _ (omega (arith, c .before .before .before .before .before .before .before .before .before .before .before .before .before .before .loan-of .ensures .0, c .before .before .before .before .before .before .before .before .before .before .before .before .before .before .before .eps-places .ensures)))
+slice-aggregate-fit-15 : tie.Need-slice-aggregate-fit-15
+slice-aggregate-fit-15 c = sym (length-take-le _ _ (omega (arith, c .before .before .before .before .before .before .before .before .before .before .before .before .before .before .before .loan-of .ensures .0, c .before .before .before .before .before .before .before .before .before .before .before .before .before .before .before .before .eps-places .ensures)))
 
 config-of-requires : tie.Need-config-of-requires
-config-of-requires c κs = omega (arith, c .before .before .before .before .before .before .before .before .before .before .before .before .before .before .before .before .before .before .before .before .before .before .before .before .before .before .before .before .before .before .before .pre)
+config-of-requires c κs = omega (arith, c .before .before .before .before .before .before .before .before .before .before .before .before .before .before .before .before .before .before .before .before .before .before .before .before .before .before .before .before .before .before .before .before .before .pre)
 
 fit-requires : tie.Need-fit-requires
 fit-requires c κs = search needs
@@ -147,6 +153,7 @@ fit-apart-spec =
     queue-places-requires
     cost-places-requires
     key-places-requires
+    history-key-places-requires
     list-places-requires
     slice-aggregate-numbers
     eps-places-requires
@@ -176,8 +183,9 @@ fit-apart-spec =
     slice-aggregate-fit-11
     slice-aggregate-fit-12
     slice-aggregate-fit-13
-    array-borrow-prefix-eps
     slice-aggregate-fit-14
+    array-borrow-prefix-eps
+    slice-aggregate-fit-15
     config-of-requires
     fit-requires
     say-unfit-requires
