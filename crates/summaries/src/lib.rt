@@ -12,7 +12,7 @@ ghost use Rattle.summaries.specs.Summed.{keyAt, skipAt, joinAt, endAt, S
 ghost use Rattle.summaries.specs.Key.{keyOver};
 use histories::Hashed;
 
-// The key of a record's history, as `histories::reading_key` has it; 0 is no record.
+// The key of a record's history: one for histories that read the same. 0 is no record.
 pub fn key_at(history_keys: &[u64], r: u32, to_join: bool) -> u64
     requires { ⌜ r * 2 ≤ length (now «history_keys») ⌝ }
     ensures { λ x. ⌜ x ≡ keyAt (now («history_keys» .entry)) «to_join» r ⌝ }
@@ -171,7 +171,7 @@ pub fn fill(
     }
 }
 
-// Whether two histories read the same, as `histories::same_reading` has it.
+// Whether two histories read the same words, and where they are read to a join, the same join.
 pub fn same_at(
     records: &[u32],
     labels: &[i32],
