@@ -245,11 +245,9 @@ module _ (g : Setting) (m : Lent) (cutoff : Float) (y : Going) (x : Stored) (a :
     FinishedBy v rs₂ ls₂ gs₂ (NotSettled n) = By (lent tk₁ (m .sums) rs₂ ls₂ gs₂) (Refused n)
     FinishedBy v rs₂ ls₂ gs₂ Stay = By (lent tk₁ (m .sums) rs₂ ls₂ gs₂) (Stays (going (v .used) (y .seq) (v .x)))
     FinishedBy v rs₂ ls₂ gs₂ (Win z k) =
-        (z .link < 2 ^ 32 - 1) ×
-        ((tk₂ : List ℕ) (sm₂ : List Float) → length tk₂ ≡ length tk₁ → length sm₂ ≡ length (m .sums) → TokenPut tk₁ tk₂ (m .sums) sm₂ (placeIn (g .side) (a .target)) z → By (lent tk₂ sm₂ rs₂ ls₂ gs₂) (Wins (going (k .used) (k .seq) (v .x))))
+        (tk₂ : List ℕ) (sm₂ : List Float) → length tk₂ ≡ length tk₁ → length sm₂ ≡ length (m .sums) → TokenPut tk₁ tk₂ (m .sums) sm₂ (placeIn (g .side) (a .target)) z → By (lent tk₂ sm₂ rs₂ ls₂ gs₂) (Wins (going (k .used) (k .seq) (v .x)))
     FinishedBy v rs₂ ls₂ gs₂ (Join z k) =
-        (z .link < 2 ^ 32 - 1) ×
-        ((tk₂ : List ℕ) (sm₂ : List Float) → length tk₂ ≡ length tk₁ → length sm₂ ≡ length (m .sums) → TokenPut tk₁ tk₂ (m .sums) sm₂ (placeIn (g .side) (a .target)) z → By (lent tk₂ sm₂ rs₂ ls₂ gs₂) (Joins (going (k .used) (k .seq) (v .x))))
+        (tk₂ : List ℕ) (sm₂ : List Float) → length tk₂ ≡ length tk₁ → length sm₂ ≡ length (m .sums) → TokenPut tk₁ tk₂ (m .sums) sm₂ (placeIn (g .side) (a .target)) z → By (lent tk₂ sm₂ rs₂ ls₂ gs₂) (Joins (going (k .used) (k .seq) (v .x)))
 
     module _ (v : Made) (R : Ready v) (rs₂ : List ℕ) (ls₂ : List ℤ) (gs₂ : List Float) (room₂ : Room (store rs₂ ls₂ gs₂) (g .cap)) where
       abbrev m₂ : Lent
@@ -328,16 +326,13 @@ module _ (g : Setting) (m : Lent) (cutoff : Float) (y : Going) (x : Stored) (a :
       inside : arc .target < length (w .table)
       inside = let z = R .stood .rep .progress .size in let k = G .target in let d = G .arrival .target in omega arith
 
-      low : (z : Stored) (k : Counts) (u : Token) → TokenOn h (v .used) (storeOf m₂) (k .used) (g .cap) z u (w .fresh + 2) → z .link < 2 ^ 32 - 1
-      low z k u T = let a = T .token .link .low in let b = T .fits in let c = G .pass .small in omega arith
-
       finish-by : (o : Outcome Change) → comesOf G ≡ o → (r : Settled) → SettleEnds h (v .used) (storeOf m₁) (storeOf m₂) (g .cap) (w .fresh) (w .seq) o r → FinishedBy v rs₂ ls₂ gs₂ r
       finish-by o e r (endsRefused n ne z) = rw e (arrivedRefused n ne (grown-old (z .h') (z .used') (z .fits) (z .grown) (z .stands)))
       finish-by o e r (endsStays q) = rw e (arrivedStays (later (λ i. lent tk₁ (m .sums) (q i .records) (q i .labels) (q i .gaps))))
       finish-by o e r (endsWins {u} {y = z} {k} T) =
-          (low z k u T, λ tk₂ sm₂ lt ls p. rw e (arrivedWins (put-on z k u (k .seq) T refl (seqs-won H P t arc w (w .cutoff) tot inside (R .stood .seqs) u (k .seq) e) tk₂ sm₂ lt ls p)))
+          λ tk₂ sm₂ lt ls p. rw e (arrivedWins (put-on z k u (k .seq) T refl (seqs-won H P t arc w (w .cutoff) tot inside (R .stood .seqs) u (k .seq) e) tk₂ sm₂ lt ls p))
       finish-by o e r (endsJoins {u} {y = z} {k} T q) =
-          (low z k u T, λ tk₂ sm₂ lt ls p. rw e (arrivedJoins (put-on z k u (w .seq) T q (seqs-joined H P t arc w (w .cutoff) tot inside (R .stood .seqs) u e) tk₂ sm₂ lt ls p)))
+          λ tk₂ sm₂ lt ls p. rw e (arrivedJoins (put-on z k u (w .seq) T q (seqs-joined H P t arc w (w .cutoff) tot inside (R .stood .seqs) u e) tk₂ sm₂ lt ls p))
 
       pub finished : (r : Settled) → SettledIs (storeOf m₁) (storeOf m₂) g (counts (v .used) (y .seq)) (x₁ v) a (cellAt tk₁ (m .sums) (placeIn (g .side) (a .target))) (meetsAt cutoff (a .total) cell) r → FinishedBy v rs₂ ls₂ gs₂ r
       finished r f = finish-by (comesOf G) refl r (settled r f)

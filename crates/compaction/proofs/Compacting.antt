@@ -1,13 +1,14 @@
 -- Marking, sliding and renumbering together are a compaction. Assumes nothing.
 use mathlib.Core.Path.{_≡_, refl, sym, _∙_, ap, subst}
 use mathlib.Core.Logic.{_⊎_, inl, inr}
-use Prim.Native.Nat.{ℕ, suc, _+_, _-_, _*_, _≤_, _<_}
+use Prim.Native.Nat.{ℕ, suc, _+_, _-_, _*_, _≤_}
 use native.Mathlib.Omega.{arith}
 use mathlib.Core.List.{List}
 use lib.ListN.{length, getD, set}
-use lib.Seq.{getD-set-same, getD-set-other}
+use lib.Seq.{getD-set-other}
 use Rattle.lists.specs.Tests.{case, eq-or-not}
 use Rattle.tokens.specs.Layout.{heldAt}
+use Rattle.tokens.specs.Held.{record-put, record-off, record-requeued}
 use Rattle.records.specs.History.{History}
 use Rattle.records.specs.Layout.{Store, store, Rec, recAt, Room, prevAt, keptAt}
 use Rattle.records.specs.Stands.{Sound, Stands}
@@ -40,22 +41,22 @@ module _ (rs tk₀ tk : List ℕ) (p : ℕ) (m : Renumbered rs tk₀ tk p) where
     field-same : (i : ℕ) → (i ≡ p * 4 → ⊥) → getD next i 0 ≡ getD tk i 0
     field-same i d = getD-set-other tk (p * 4) i v 0 d
 
-    pub renumbered-more : (r : ℕ) → heldAt tk p ≡ suc r → v ≡ suc (newOf rs r) → Renumbered rs tk₀ next (p + 1)
+    pub renumbered-more : (r : ℕ) → heldAt tk p ≡ suc r → v ≡ newOf rs r → Renumbered rs tk₀ next (p + 1)
     renumbered-more r e is =
         let was : heldAt tk₀ p ≡ suc r = sym (m .others .beyond p (omega arith)) ∙ e in
         record {
           others = record {
             seq = λ q. field-same (q * 4 + 1) (λ d. omega arith) ∙ m .others .seq q;
             phone = λ q. field-same (q * 4 + 2) (λ d. omega arith) ∙ m .others .phone q;
-            requeued = λ q. field-same (q * 4 + 3) (λ d. omega arith) ∙ m .others .requeued q;
-            beyond = λ q l. field-same (q * 4) (λ d. omega arith) ∙ m .others .beyond q (omega arith);
+            requeued = λ q. record-requeued tk p v q ∙ m .others .requeued q;
+            beyond = λ q l. record-off tk p v q (λ d. omega arith) ∙ m .others .beyond q (omega arith);
           };
-          none = λ q z. case (eq-or-not q p) (λ d. absurd (omega (arith, was, ap (heldAt tk₀) d))) (λ d. field-same (q * 4) (λ a. d (omega arith)) ∙ m .none q z);
+          none = λ q z. case (eq-or-not q p) (λ d. absurd (omega (arith, was, ap (heldAt tk₀) d))) (λ d. record-off tk p v q d ∙ m .none q z);
           held = λ q j l a. case (eq-or-not q p)
               (λ d.
               let same : j ≡ r = omega (arith, ap (heldAt tk₀) d) in
-              ap (heldAt next) d ∙ getD-set-same tk (p * 4) v 0 (omega arith) ∙ is ∙ ap (λ (x : ℕ). suc (newOf rs x)) (sym same))
-              (λ d. field-same (q * 4) (λ b. d (omega arith)) ∙ m .held q j (omega (arith, d)) a);
+              ap (heldAt next) d ∙ record-put tk p v room (λ z. omega arith) ∙ ap suc is ∙ ap (λ (x : ℕ). suc (newOf rs x)) (sym same))
+              (λ d. record-off tk p v q d ∙ m .held q j (omega (arith, d)) a);
         }
 
 -- ---- a compaction
@@ -92,10 +93,6 @@ module _ (s : Store) (tk rs : List ℕ) (places used x : ℕ) (h : Holds s tk pl
   stands t ok = record { none = ok .none; each = λ k l. subst (λ (r : Rec). Sound t r k) (sym (same k)) (ok .each k l); ascends = ok .ascends }
 
   module _ (s' : Store) (n : ℕ) (S : Slid marked s' used n) where
-    -- what the tokens hold has a new number
-    pub held-new : (p : ℕ) → p < places → newOf (s' .records) (heldAt tk p - 1) ≤ 1048576
-    held-new p l = omega (arith, S .small (heldAt tk p - 1) (omega (arith, h .held p l)), S .few, h .few)
-
     root-home : (r : ℕ) → r ≤ used → Root tk places x r → S .old (newOf (s' .records) r) ≡ r
     root-home r l w = home marked s' used n S r l (alive r l (fromRoot w))
 

@@ -13,6 +13,7 @@ ghost use Rattle.compaction.specs.Slide.{movedNumbers, movedPair, Slid, 
 ghost use Rattle.compaction.specs.Carried.{Holds, Renumbered, Compacted, RoomMade};
 use records::kept_of;
 use records::prev_of;
+use tokens::has_token;
 
 // The mark of a record; 0 is none and has none.
 fn new_number(records: &[u32], r: u32) -> u32
@@ -54,9 +55,8 @@ fn mark_held(records: &mut [u32], tokens: &[u32], places: u32)
 {
     let mut p = 0;
     while p < places {
-        let held = tokens[p as usize * 4];
-        if 0 < held {
-            mark(records, held - 1);
+        if has_token(tokens, p) {
+            mark(records, tokens[p as usize * 4]);
         }
         p += 1;
     }
@@ -181,15 +181,14 @@ fn slide(records: &mut [u32], labels: &mut [i32], gaps: &mut [f32], used: u32) -
 
 // The tokens hold their records by the new numbers.
 fn renumber(records: &[u32], tokens: &mut [u32], places: u32)
-    requires { ⌜ (places * 4 ≤ length (now tokens)) × ((p : ℕ) → p < places → (heldAt (now tokens) p * 8 ≤ length (now records) + 8) × (newOf (now records) (heldAt (now tokens) p - 1) ≤ 1048576)) ⌝ }
+    requires { ⌜ (places * 4 ≤ length (now tokens)) × ((p : ℕ) → p < places → heldAt (now tokens) p * 8 ≤ length (now records) + 8) ⌝ }
     ensures { λ _. ⌜ Renumbered (now (records .entry)) (now (tokens .entry)) (now (tokens .exit)) places ⌝ }
 {
     let mut place = 0;
     while place < places {
-        let i = place as usize * 4;
-        let held = tokens[i];
-        if 0 < held {
-            tokens[i] = new_number(records, held - 1) + 1;
+        if has_token(tokens, place) {
+            let i = place as usize * 4;
+            tokens[i] = new_number(records, tokens[i]);
         }
         place += 1;
     }

@@ -1,6 +1,6 @@
 -- A start. Assumes nothing.
 use mathlib.Core.Path.{_≡_, refl, sym, ap, _∙_, subst}
-use Prim.Native.Nat.{ℕ, zero, suc, _+_, _-_, _*_, _^_, _≤_, _<_}
+use Prim.Native.Nat.{ℕ, zero, suc, _+_, _-_, _*_, _≤_, _<_}
 use native.Mathlib.Omega.{arith}
 use mathlib.Core.Bool.{Bool, true, false}
 use mathlib.Core.Option.{Option, none, some}
@@ -163,10 +163,10 @@ module _ {g : Graph} {c : Settings} {l : Limits} {T : Tables} {m : Lent} {eps : 
 
   -- what safety asks of the start token
   pub put-asks : (d .graph .start ≡ NO-STATE → ⊥) → (tk : List ℕ) → length tk ≡ length (m .tokens)
-      → (d .side ≤ 1) × (d .graph .start * 8 + 8 ≤ length tk) × (d .graph .start * 4 + 4 ≤ length (m .sums)) × (0 < 2 ^ 32 - 1)
+      → (d .side ≤ 1) × (d .graph .start * 8 + 8 ≤ length tk) × (d .graph .start * 4 + 4 ≤ length (m .sums))
   put-asks somewhere tk e =
       let l = start-low somewhere in
-      (G .fixed .side, let z = G .fixed .stores .tokens in omega arith, let z = G .fixed .stores .sums in omega arith, omega arith)
+      (G .fixed .side, let z = G .fixed .stores .tokens in omega arith, let z = G .fixed .stores .sums in omega arith)
 
   fixed-as : (m' : Lent) → Lens m m' → (side frames seq used : ℕ) → side ≤ 1 → Fixed g c l T m' eps places (movedTo d side frames seq used)
   fixed-as m' = fixed-moved (G .fixed) m'

@@ -1,16 +1,20 @@
 -- What keeps a store ready. Assumes nothing.
-use mathlib.Core.Path.{_≡_}
-use Prim.Native.Nat.{ℕ, suc, _+_, _*_, _≤_, _<_}
+use mathlib.Core.Path.{_≡_, sym, ap, _∙_}
+use Prim.Native.Nat.{ℕ, zero, suc, _+_, _*_, _/_, _%_, _≤_, _<_}
 use native.Mathlib.Omega.{arith}
+use native.Mathlib.Nat.{min-le-left}
 use mathlib.Core.Bool.{true, _||_}
-use mathlib.Core.List.{List}
+use mathlib.Core.List.{List, []}
 use lib.IntN.{ℤ, pos}
 use lib.Ieee.{Float}
-use lib.ListN.{length, set}
+use lib.ListN.{length, getD, set}
+use lib.Bits.{bitAnd, and-step, and-mod}
 use lib.Seq.{getD-set-same, getD-set-other}
 use Rattle.lists.specs.Tests.{case, eq-or-not}
 use Rattle.model.specs.Basics.{nonzero}
-use Rattle.tokens.specs.Layout.{heldAt}
+use Rattle.tokens.specs.declared.Token.{Token}
+use Rattle.tokens.specs.Layout.{placeIn, activeIn, blockOf, bitOf, bitAt, heldBy, heldAt, Cell, cellAt, TokenPut, Cleared}
+use Rattle.tokens.specs.Held.{held-same}
 use Rattle.records.specs.declared.Kept.{Kept}
 use Rattle.records.specs.History.{History, noHistory, linkOn, joinOn, tag}
 use Rattle.records.specs.Layout.{Store, store, besideIn}
@@ -57,18 +61,55 @@ pub ready-held : (s : Store) (tk tk' : List ℕ) (n cap places held : ℕ) → h
 ready-held s tk tk' n cap places held l m r =
     record { few = r .few; cap-few = r .cap-few; places-few = r .places-few; histories = r .histories; stands = r .stands; held = λ p a. m .within (suc n) p l (r .held p a) }
 
-pub held-put : (tk : List ℕ) (q held : ℕ) → q * 4 < length tk → HeldPut tk (set tk (q * 4) held) held
-held-put tk q held l =
+-- a token put
+pub held-put : (tk tk' : List ℕ) (sm sm' : List Float) (q : ℕ) (t : Token) → TokenPut tk tk' sm sm' q t → HeldPut tk tk' (t .link + 1)
+unfolding cellAt
+held-put tk tk' sm sm' q t c =
     record {
-      within = λ n p a b. case (eq-or-not p q) (λ e. rw (e, getD-set-same tk (q * 4) held 0 l) a) (λ d. rw (getD-set-other tk (q * 4) (p * 4) held 0 (λ e. d (omega arith))) b);
+      within = λ n p a b. case (eq-or-not p q) (λ e. omega (arith, ap (heldAt tk') e, ap (λ (x : Cell). x .held) (c .there))) (λ d. omega (arith, ap (λ (x : Cell). x .held) (c .elsewhere p d)));
     }
+
+-- marks taken away
+and-bit : (a b j : ℕ) → bitAt (bitAnd a b) j ≤ bitAt a j
+unfolding bitAt
+and-bit a b zero = let l = min-le-left (a % 2) (b % 2) in omega (arith, and-step a b)
+and-bit a b (suc j) = let l = min-le-left (a % 2) (b % 2) in let e : bitAnd a b / 2 ≡ bitAnd (a / 2) (b / 2) = omega (arith, and-step a b) in rw e (and-bit (a / 2) (b / 2) j)
+
+held-less : (m m' r : ℕ) → m' ≤ m → heldBy m' r ≤ heldBy m r
+held-less m zero r l = omega arith
+held-less zero (suc m') r l = absurd (omega arith)
+held-less (suc m) (suc m') r l = omega arith
+
+module _ (tk : List ℕ) (i m : ℕ) where
+  abbrev taken : List ℕ
+  taken = set tk (i * 4 + 3) (bitAnd (getD tk (i * 4 + 3) 0) m)
+
+  word-same : (j : ℕ) → (j ≡ i * 4 + 3 → ⊥) → getD taken j 0 ≡ getD tk j 0
+  word-same j d = getD-set-other tk (i * 4 + 3) j (bitAnd (getD tk (i * 4 + 3) 0) m) 0 d
+
+  less : i * 4 + 4 ≤ length tk → (p : ℕ) → heldAt taken p ≤ heldAt tk p
+  unfolding heldAt
+  less long p =
+      case (eq-or-not (blockOf p) i)
+      (λ e. rw (word-same (p * 4) (λ d. omega arith), e, getD-set-same tk (i * 4 + 3) (bitAnd (getD tk (i * 4 + 3) 0) m) 0 (omega arith), and-mod (getD tk (i * 4 + 3) 0) m 16)
+      (held-less (bitAt (activeIn tk i) (bitOf p)) (bitAt (bitAnd (activeIn tk i) (m % 65536)) (bitOf p)) (getD tk (p * 4) 0) (and-bit (activeIn tk i) (m % 65536) (bitOf p))))
+      (λ d. omega (arith, held-same tk p taken (word-same (blockOf p * 4 + 3) (λ e. d (omega arith))) (word-same (p * 4) (λ e. omega arith))))
+
+  pub held-taken : i * 4 + 4 ≤ length tk → HeldPut tk taken 0
+  held-taken long = record { within = λ n p a b. omega (arith, less long p) }
 
 pub held-kept : (tk : List ℕ) (held : ℕ) → HeldPut tk tk held
 held-kept tk held = record { within = λ n p a b. b }
 
--- places emptied so far
-pub emptied-more : (tk : List ℕ) (q : ℕ) → q * 4 < length tk → ((p : ℕ) → p < q → heldAt tk p ≡ 0) → (p : ℕ) → p < q + 1 → heldAt (set tk (q * 4) 0) p ≡ 0
-emptied-more tk q l z p a = case (eq-or-not p q) (λ e. rw e (getD-set-same tk (q * 4) 0 0 l)) (λ d. rw (getD-set-other tk (q * 4) (p * 4) 0 0 (λ e. d (omega arith))) (z p (omega (arith, d))))
+-- both tables emptied
+pub emptied : (tk tk' tk'' : List ℕ) → Cleared tk tk' 0 8 → Cleared tk' tk'' 1 8 → (p : ℕ) → p < 16 → heldAt tk'' p ≡ 0
+unfolding cellAt
+emptied tk tk' tk'' a b p l =
+    case (eq-or-not (p % 2) 1)
+    (λ e. let is : placeIn 1 (p / 2) ≡ p = omega arith in ap (heldAt tk'') (sym is) ∙ b .none (p / 2) (omega arith))
+    (λ d.
+    let is : placeIn 0 (p / 2) ≡ p = omega (arith, d) in
+    ap (λ (x : Cell). x .held) (b .cells p (λ s e. omega (arith, d)) []) ∙ ap (heldAt tk') (sym is) ∙ a .none (p / 2) (omega arith))
 
 -- ---- room
 

@@ -14,6 +14,7 @@ ghost use lib.ListN.{length};
 ghost use Rattle.records.specs.Layout.{Store, store};
 ghost use Rattle.store_cases.specs.Ready.{Ready, Lent, LinksOn, RecordsPut, HeldPut};
 use records::Kept;
+use tokens::Token;
 
 // A digit's value, 10 for what is none.
 fn digit(b: u8) -> u32
@@ -193,11 +194,8 @@ fn empty_store(tokens: &mut [u32], cap: u32, places: u32) -> Sizes
     requires { ⌜ 64 ≤ length (now tokens) ⌝ }
     ensures { λ r. ⌜ ((s : Store) → Ready s (now (tokens .exit)) (r .used) (r .cap) (r .places)) ⌝ }
 {
-    let mut p: u32 = 0;
-    while p < 16 {
-        tokens[p as usize * 4] = 0;
-        p += 1;
-    }
+    tokens::clear(tokens, 0, 8);
+    tokens::clear(tokens, 1, 8);
     Sizes {
         used: 0,
         cap: least(cap, 32768),
@@ -205,18 +203,52 @@ fn empty_store(tokens: &mut [u32], cap: u32, places: u32) -> Sizes
     }
 }
 
-fn hold(tokens: &mut [u32], place: u32, held: u32)
+// A token that holds record `r`. Its sums are nobody's business here.
+fn hold(tokens: &mut [u32], place: u32, r: u32)
     requires { ⌜ 64 ≤ length (now tokens) ⌝ }
-    ensures { λ _. ⌜ HeldPut (now (tokens .entry)) (now (tokens .exit)) held ⌝ }
+    ensures { λ _. ⌜ HeldPut (now (tokens .entry)) (now (tokens .exit)) (r + 1) ⌝ }
 {
     if place < 16 {
-        tokens[place as usize * 4] = held;
+        let mut sums = [0.0f32; 32];
+        let t = Token {
+            cost: 0.0,
+            graph: 0.0,
+            link: r,
+            phone: 0,
+            seq: 0,
+        };
+        tokens::put_token(tokens, &mut sums, place % 2, place / 2, t);
     }
 }
 
-fn tell(n: u32) {
-    io::print_decimal(1, n as u64);
+// No token in a place: its mark is taken away. The places of each table are one block.
+fn release(tokens: &mut [u32], place: u32)
+    requires { ⌜ 64 ≤ length (now tokens) ⌝ }
+    ensures { λ _. ⌜ HeldPut (now (tokens .entry)) (now (tokens .exit)) 0 ⌝ }
+{
+    if place < 16 {
+        let i = (place % 2) as usize * 4 + 3;
+        tokens[i] = tokens[i] & !(1 << (place / 2));
+    }
+}
+
+fn tell_wide(n: u64) {
+    io::print_decimal(1, n);
     io::write_all(1, b" ");
+}
+
+fn tell(n: u32) {
+    tell_wide(n as u64);
+}
+
+fn tell_token(tokens: &[u32], place: u32)
+    requires { ⌜ place * 4 + 4 ≤ length (now tokens) ⌝ }
+{
+    if tokens::has_token(tokens, place) {
+        tell_wide(tokens[place as usize * 4] as u64 + 1);
+    } else {
+        tell(0);
+    }
 }
 
 fn tell_tokens(tokens: &[u32], places: u32)
@@ -224,7 +256,7 @@ fn tell_tokens(tokens: &[u32], places: u32)
 {
     let mut p = 0;
     while p < places {
-        tell(tokens[p as usize * 4]);
+        tell_token(tokens, p);
         p += 1;
     }
     io::write_all(1, b"\n");
@@ -313,12 +345,12 @@ fn token_line(tokens: &mut [u32], z: Sizes, l: Line) -> Sizes
         return empty_store(tokens, l.a, l.b);
     }
     if op == b'e' {
-        hold(tokens, l.a, 0);
+        release(tokens, l.a);
         return z;
     }
     if op == b'h' {
         if r <= used {
-            hold(tokens, l.a, r + 1);
+            hold(tokens, l.a, r);
         }
     }
     z

@@ -1,6 +1,6 @@
 -- Marking, sliding, renumbering.
 use Rattle.records.specs.Layout.{store}
-use Rattle.compaction.proofs.Compacting.{marked-shape, held-new, compacted}
+use Rattle.compaction.proofs.Compacting.{marked-shape, compacted}
 use borrow.Author.Needs.{needs}
 use Rattle.compaction.proofs.compact.Statement.{statement}
 use Rattle.compaction.proofs.compact.Tie as tie
@@ -19,13 +19,8 @@ renumber-requires : tie.Need-renumber-requires
 renumber-requires c κs =
     let s = c .before .before .before .before .before .before .before .before .before .before .before .before .before .before .before .before .before .before .before in
     let m = c .before .before .before .before .before .before .before .before .before .before .before .before .before .mark-live in
-    let d = c .before .before .before .before .before .before .before .slide in (
-      s .pre .room,
-      λ p l. (
-        omega (arith, s .pre .held p l, s .pre .shape .room .records, d .kept .0, m .kept .0),
-        held-new _ (s .args .tokens .now) (m .last .0) _ _ _ (s .pre) (m .ensures) (m .kept .0) (store (d .last .0) (d .last .1 .0) (d .last .1 .1 .0)) _ (d .ensures) p l,
-      ),
-    )
+    let d = c .before .before .before .before .before .before .before .slide in
+    (s .pre .room, λ p l. omega (arith, s .pre .held p l, s .pre .shape .room .records, d .kept .0, m .kept .0))
 
 new-number-requires : tie.Need-new-number-requires
 new-number-requires c κs = search needs

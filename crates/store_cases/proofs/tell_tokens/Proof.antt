@@ -1,32 +1,22 @@
 -- Only places that there are.
 use Prim.Native.Nat.{_≤_, _-_}
+use borrow.Author.Needs.{needs}
 use Rattle.store_cases.proofs.tell_tokens.Statement.{statement}
 use Rattle.store_cases.proofs.tell_tokens.Tie as tie
-use borrow.Author.Needs.{needs}
 
 abbrev Inv-loop : tie.InvT-loop
-Inv-loop tokens places p₀ t4 p = p ≤ places
+Inv-loop tokens places p₀ t4 p =
+    p ≤ places
 
 abbrev μ-loop : tie.MeasureT-loop
-μ-loop tokens places p₀ t4 p = places - p
+μ-loop tokens places p₀ t4 p =
+    places - p
 
 loop-holds : tie.Need-loop-holds Inv-loop μ-loop
 loop-holds c = search needs
 
-cast-tell : tie.Need-cast-tell Inv-loop μ-loop
-cast-tell c = search needs
-
-mul-tell : tie.Need-mul-tell Inv-loop μ-loop
-mul-tell c = search needs
-
-mul-tell-2 : tie.Need-mul-tell-2 Inv-loop μ-loop
-mul-tell-2 c = search needs
-
-shared-slice-read-tell : tie.Need-shared-slice-read-tell Inv-loop μ-loop
-shared-slice-read-tell c = search needs
-
-tell-requires : tie.Need-tell-requires Inv-loop μ-loop
-tell-requires c κs = search needs
+tell-token-requires : tie.Need-tell-token-requires Inv-loop μ-loop
+tell-token-requires c κs = search needs
 
 add-p : tie.Need-add-p Inv-loop μ-loop
 add-p c = search needs
@@ -53,11 +43,7 @@ tell-tokens-spec =
     Inv-loop
     μ-loop
     loop-holds
-    cast-tell
-    mul-tell
-    mul-tell-2
-    shared-slice-read-tell
-    tell-requires
+    tell-token-requires
     add-p
     loop-less
     loop-again

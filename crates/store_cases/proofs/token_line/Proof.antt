@@ -1,9 +1,9 @@
--- An empty store, another number in a place, or nothing.
+-- An empty store, another record in a place, none there, or nothing.
+use native.Mathlib.Omega.{arith}
 use Rattle.store_cases.proofs.Keeps.{ready-held}
 use borrow.Author.Needs.{needs}
 use Rattle.store_cases.proofs.token_line.Statement.{statement}
 use Rattle.store_cases.proofs.token_line.Tie as tie
-use native.Mathlib.Omega.{arith}
 
 empty-store-requires : tie.Need-empty-store-requires
 empty-store-requires c κs = search needs
@@ -14,26 +14,23 @@ same-length c = search needs
 returns : tie.Need-returns
 returns c = λ s r. c .before .before .empty-store .ensures s
 
-hold-requires : tie.Need-hold-requires
-hold-requires c κs = search needs
+release-requires : tie.Need-release-requires
+release-requires c κs = search needs
 
 same-length-2 : tie.Need-same-length-2
 same-length-2 c = search needs
 
 returns-2 : tie.Need-returns-2
-returns-2 c = λ s r. ready-held s _ _ _ _ _ _ (omega arith) (c .before .before .hold .ensures) r
+returns-2 c = λ s r. ready-held s _ _ _ _ _ _ (omega arith) (c .before .before .release .ensures) r
 
-add-hold : tie.Need-add-hold
-add-hold c = search needs
-
-hold-requires-2 : tie.Need-hold-requires-2
-hold-requires-2 c κs = search needs
+hold-requires : tie.Need-hold-requires
+hold-requires c κs = search needs
 
 same-length-3 : tie.Need-same-length-3
 same-length-3 c = search needs
 
 returns-3 : tie.Need-returns-3
-returns-3 c = λ s r. ready-held s _ _ _ _ _ _ (omega (arith, c .before .before .before .before .if4 .taken)) (c .before .before .hold2 .ensures) r
+returns-3 c = λ s r. ready-held s _ _ _ _ _ _ (omega (arith, c .before .before .before .before .if4 .taken)) (c .before .before .hold .ensures) r
 
 returns-4 : tie.Need-returns-4
 returns-4 c = λ s r. r
@@ -48,11 +45,10 @@ token-line-spec =
     empty-store-requires
     same-length
     returns
-    hold-requires
+    release-requires
     same-length-2
     returns-2
-    add-hold
-    hold-requires-2
+    hold-requires
     same-length-3
     returns-3
     returns-4

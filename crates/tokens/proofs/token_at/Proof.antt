@@ -31,45 +31,36 @@ mul-t12 c = search needs
 shared-slice-read-t14 : tie.Need-shared-slice-read-t14
 shared-slice-read-t14 c = search needs
 
-mul-one-less : tie.Need-mul-one-less
-mul-one-less c = search needs
+link-at-requires : tie.Need-link-at-requires
+link-at-requires c κs = search needs
 
-mul-one-less-2 : tie.Need-mul-one-less-2
-mul-one-less-2 c = search needs
+mul-t16 : tie.Need-mul-t16
+mul-t16 c = search needs
 
-shared-slice-read-one-less : tie.Need-shared-slice-read-one-less
-shared-slice-read-one-less c = search needs
+add-t17 : tie.Need-add-t17
+add-t17 c = search needs
 
-one-less-requires : tie.Need-one-less-requires
-one-less-requires c κs = search needs
+mul-t18 : tie.Need-mul-t18
+mul-t18 c = search needs
 
-mul-t20 : tie.Need-mul-t20
-mul-t20 c = search needs
+shared-slice-read-t20 : tie.Need-shared-slice-read-t20
+shared-slice-read-t20 c = search needs
 
-add-t21 : tie.Need-add-t21
-add-t21 c = search needs
+mul-t21 : tie.Need-mul-t21
+mul-t21 c = search needs
 
-mul-t22 : tie.Need-mul-t22
-mul-t22 c = search needs
+add-t22 : tie.Need-add-t22
+add-t22 c = search needs
 
-shared-slice-read-t24 : tie.Need-shared-slice-read-t24
-shared-slice-read-t24 c = search needs
+mul-t23 : tie.Need-mul-t23
+mul-t23 c = search needs
 
-mul-t25 : tie.Need-mul-t25
-mul-t25 c = search needs
-
-add-t26 : tie.Need-add-t26
-add-t26 c = search needs
-
-mul-t27 : tie.Need-mul-t27
-mul-t27 c = search needs
-
-shared-slice-read-t29 : tie.Need-shared-slice-read-t29
-shared-slice-read-t29 c = search needs
+shared-slice-read-t25 : tie.Need-shared-slice-read-t25
+shared-slice-read-t25 c = search needs
 
 returns : tie.Need-returns
 unfolding cellAt
-returns c = rw (c .before .before .one-less .ensures)
+returns c = rw (c .before .before .link-at .ensures)
 
 pub token-at-spec : {M : Type 1} → statement M
 token-at-spec =
@@ -84,16 +75,13 @@ token-at-spec =
     add-t11
     mul-t12
     shared-slice-read-t14
-    mul-one-less
-    mul-one-less-2
-    shared-slice-read-one-less
-    one-less-requires
-    mul-t20
-    add-t21
-    mul-t22
-    shared-slice-read-t24
-    mul-t25
-    add-t26
-    mul-t27
-    shared-slice-read-t29
+    link-at-requires
+    mul-t16
+    add-t17
+    mul-t18
+    shared-slice-read-t20
+    mul-t21
+    add-t22
+    mul-t23
+    shared-slice-read-t25
     returns)
