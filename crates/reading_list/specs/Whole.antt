@@ -1,6 +1,6 @@
 -- The read as a whole: what its steps ask, and each way out. Assumes nothing.
 use mathlib.Core.Path.{_≡_, refl, sym, _∙_, ap, ap₂, subst}
-use Prim.Native.Nat.{ℕ, _+_, _/_, _≤_, _<_}
+use Prim.Native.Nat.{ℕ, _+_, _*_, _/_, _≤_, _<_}
 use native.Mathlib.Omega.{arith}
 use mathlib.Core.Bool.{Bool, true, false, _||_}
 use mathlib.Core.Option.{Option}
@@ -37,6 +37,10 @@ kept-few h l s k o x =
     let a = least-low (least (least (least h (l / 4)) (least (s / 2) k)) o) (least x 0x7fff_fff0) in
     let b = least-low x 0x7fff_fff0 in
     omega arith
+
+-- what has two places for each record has one
+pub count-places : {n a b : ℕ} → n * 2 ≤ a → b ≡ a → n ≤ b
+count-places l e = omega arith
 
 -- ---- more than 64
 

@@ -4,6 +4,7 @@ ghost use Prim.Native.Nat.{_+_, _-_, _*_, _≤_};
 ghost use lib.ListN.{length};
 ghost use lib.Seq.{sets};
 ghost use Rattle.summaries.specs.Summed.{Skips};
+ghost use Rattle.routes.specs.Counts.{Counts};
 ghost use Rattle.traceback.specs.Trail.{noTrail};
 ghost use Rattle.traceback.specs.Chain.{Walkable, trailFrom};
 ghost use Rattle.listing.specs.Places.{entryPlaces, keptPlaces};
@@ -82,22 +83,29 @@ fn reading_at(
     ))
 }
 
-// The size of a path; where it is not traced, of its words alone.
+// The size of a path; where it is not traced, of its words alone. Without a kept history they are counted already.
 fn measure_path(
     records: &[u32],
     labels: &[i32],
     route: &[u32],
     used: u32,
     history_skips: &[u32],
+    history_counts: &[u64],
     n: u32,
     link: u32,
     traced: bool,
 ) -> Size
-    requires { ⌜ (Walkable (now records) (now labels) used) × (link ≤ used) × (Skips (now records) (now labels) used used (now «history_skips»)) ⌝ }
+    requires { ⌜ (Walkable (now records) (now labels) used) × (link ≤ used) × (Skips (now records) (now labels) used used (now «history_skips»)) × (Counts (now records) (now labels) used used (now «history_counts»)) ⌝ }
     ensures { λ r. ⌜ SizeFor traced (trailFrom (now (records .entry)) (now (labels .entry)) (now (route .entry)) n link noTrail) used r ⌝ }
 {
     if traced {
         return traceback::measure(records, labels, route, used, n, link);
+    }
+    if route.len() == 0 {
+        return Size {
+            words: routes::count_at(history_counts, link),
+            segments: 0,
+        };
     }
     Size {
         words: routes::count_words(records, labels, route, used, history_skips, link),
@@ -113,13 +121,14 @@ fn measure_reading(
     side: u32,
     used: u32,
     history_skips: &[u32],
+    history_counts: &[u64],
     n: u32,
     nexts: &[u32],
     g: Reading,
     traced: bool,
     route: &mut [u32],
 ) -> Size
-    requires { ⌜ (PathAsks (now tokens) (now records) (now labels) (now nexts) side used g (now route)) × (Skips (now records) (now labels) used used (now «history_skips»)) ⌝ }
+    requires { ⌜ (PathAsks (now tokens) (now records) (now labels) (now nexts) side used g (now route)) × (Skips (now records) (now labels) used used (now «history_skips»)) × (Counts (now records) (now labels) used used (now «history_counts»)) ⌝ }
     ensures { λ r. ⌜ SizeFor traced (trailOf (now (tokens .entry)) (now (records .entry)) (now (labels .entry)) (now (nexts .entry)) side n g) used r ⌝ }
 {
     let link = tokens::link_at(tokens, side, g.state);
@@ -130,6 +139,7 @@ fn measure_reading(
         &route[..k],
         used,
         history_skips,
+        history_counts,
         n,
         link,
         traced,
@@ -172,6 +182,7 @@ fn measure_all(
     side: u32,
     used: u32,
     history_skips: &[u32],
+    history_counts: &[u64],
     n: u32,
     counts: bool,
     nexts: &[u32],
@@ -183,7 +194,7 @@ fn measure_all(
     max: usize,
     route: &mut [u32],
 ) -> Totals
-    requires { ⌜ (ListAsks (view (now tokens) (now sums) (now finals) (now records) (now labels) (now nexts) (now «kept_hashes») (now «kept_links») (now «kept_sums») side used n counts) (now list) k (now route)) × (Skips (now records) (now labels) used used (now «history_skips»)) ⌝ }
+    requires { ⌜ (ListAsks (view (now tokens) (now sums) (now finals) (now records) (now labels) (now nexts) (now «kept_hashes») (now «kept_links») (now «kept_sums») side used n counts) (now list) k (now route)) × (Skips (now records) (now labels) used used (now «history_skips»)) × (Counts (now records) (now labels) used used (now «history_counts»)) ⌝ }
     ensures { λ r. ⌜ TotalsAre (view (now (tokens .entry)) (now (sums .entry)) (now (finals .entry)) (now (records .entry)) (now (labels .entry)) (now (nexts .entry)) (now («kept_hashes» .entry)) (now («kept_links» .entry)) (now («kept_sums» .entry)) side used n counts) max (now (list .entry)) k r ⌝ }
 {
     let mut total = Totals {
@@ -210,6 +221,7 @@ fn measure_all(
             side,
             used,
             history_skips,
+            history_counts,
             n,
             nexts,
             g,
@@ -328,6 +340,7 @@ fn write_reading(
     side: u32,
     used: u32,
     history_skips: &[u32],
+    history_counts: &[u64],
     n: u32,
     nexts: &[u32],
     g: Reading,
@@ -341,7 +354,7 @@ fn write_reading(
     numbers: &mut [u64],
     costs: &mut [f32],
 ) -> Totals
-    requires { ⌜ (LineAsks (now tokens) (now sums) (now records) (now labels) (now nexts) side used n g i traced at (now route) (outputs (now words) (now frames) (now segments) (now numbers) (now costs))) × (Skips (now records) (now labels) used used (now «history_skips»)) ⌝ }
+    requires { ⌜ (LineAsks (now tokens) (now sums) (now records) (now labels) (now nexts) side used n g i traced at (now route) (outputs (now words) (now frames) (now segments) (now numbers) (now costs))) × (Skips (now records) (now labels) used used (now «history_skips»)) × (Counts (now records) (now labels) used used (now «history_counts»)) ⌝ }
     ensures { λ r. ⌜ LinePut (lineOf (now (tokens .entry)) (now (sums .entry)) (now (records .entry)) (now (labels .entry)) (now (nexts .entry)) side n g traced) i at r (outputs (now (words .entry)) (now (frames .entry)) (now (segments .entry)) (now (numbers .entry)) (now (costs .entry))) (outputs (now (words .exit)) (now (frames .exit)) (now (segments .exit)) (now (numbers .exit)) (now (costs .exit))) ⌝ }
 {
     let t = tokens::token_at(tokens, sums, side, g.state);
@@ -352,6 +365,7 @@ fn write_reading(
         &route[..k],
         used,
         history_skips,
+        history_counts,
         n,
         t.link,
         traced,
@@ -388,6 +402,7 @@ fn write_all(
     side: u32,
     used: u32,
     history_skips: &[u32],
+    history_counts: &[u64],
     n: u32,
     counts: bool,
     nexts: &[u32],
@@ -404,7 +419,7 @@ fn write_all(
     numbers: &mut [u64],
     costs: &mut [f32],
 )
-    requires { ⌜ (WriteAsks (view (now tokens) (now sums) (now finals) (now records) (now labels) (now nexts) (now «kept_hashes») (now «kept_links») (now «kept_sums») side used n counts) max (now list) k (now route) (outputs (now words) (now frames) (now segments) (now numbers) (now costs))) × (Skips (now records) (now labels) used used (now «history_skips»)) ⌝ }
+    requires { ⌜ (WriteAsks (view (now tokens) (now sums) (now finals) (now records) (now labels) (now nexts) (now «kept_hashes») (now «kept_links») (now «kept_sums») side used n counts) max (now list) k (now route) (outputs (now words) (now frames) (now segments) (now numbers) (now costs))) × (Skips (now records) (now labels) used used (now «history_skips»)) × (Counts (now records) (now labels) used used (now «history_counts»)) ⌝ }
     ensures { λ _. ⌜ Filled (linesIn (view (now (tokens .entry)) (now (sums .entry)) (now (finals .entry)) (now (records .entry)) (now (labels .entry)) (now (nexts .entry)) (now («kept_hashes» .entry)) (now («kept_links» .entry)) (now («kept_sums» .entry)) side used n counts) max (now (list .entry)) k) (outputs (now (words .entry)) (now (frames .entry)) (now (segments .entry)) (now (numbers .entry)) (now (costs .entry))) (outputs (now (words .exit)) (now (frames .exit)) (now (segments .exit)) (now (numbers .exit)) (now (costs .exit))) ⌝ }
 {
     let mut at = Totals {
@@ -432,6 +447,7 @@ fn write_all(
             side,
             used,
             history_skips,
+            history_counts,
             n,
             nexts,
             g,
@@ -464,6 +480,7 @@ fn write_list(
     side: u32,
     used: u32,
     history_skips: &[u32],
+    history_counts: &[u64],
     n: u32,
     counts: bool,
     nexts: &[u32],
@@ -480,7 +497,7 @@ fn write_list(
     numbers: &mut [u64],
     costs: &mut [f32],
 ) -> ReadingList
-    requires { ⌜ (ListAsks (view (now tokens) (now sums) (now finals) (now records) (now labels) (now nexts) (now «kept_hashes») (now «kept_links») (now «kept_sums») side used n counts) (now list) k (now route)) × (Skips (now records) (now labels) used used (now «history_skips»)) ⌝ }
+    requires { ⌜ (ListAsks (view (now tokens) (now sums) (now finals) (now records) (now labels) (now nexts) (now «kept_hashes») (now «kept_links») (now «kept_sums») side used n counts) (now list) k (now route)) × (Skips (now records) (now labels) used used (now «history_skips»)) × (Counts (now records) (now labels) used used (now «history_counts»)) ⌝ }
     ensures { λ r. ⌜ ListWritten (view (now (tokens .entry)) (now (sums .entry)) (now (finals .entry)) (now (records .entry)) (now (labels .entry)) (now (nexts .entry)) (now («kept_hashes» .entry)) (now («kept_links» .entry)) (now («kept_sums» .entry)) side used n counts) max (now (list .entry)) k (outputs (now (words .entry)) (now (frames .entry)) (now (segments .entry)) (now (numbers .entry)) (now (costs .entry))) (outputs (now (words .exit)) (now (frames .exit)) (now (segments .exit)) (now (numbers .exit)) (now (costs .exit))) r ⌝ }
 {
     let total = measure_all(
@@ -492,6 +509,7 @@ fn write_list(
         side,
         used,
         history_skips,
+        history_counts,
         n,
         counts,
         nexts,
@@ -523,6 +541,7 @@ fn write_list(
         side,
         used,
         history_skips,
+        history_counts,
         n,
         counts,
         nexts,
@@ -624,30 +643,35 @@ pub fn readings(
         order,
     ) {
         Listing::Full => ReadingList::Refused(15),
-        Listing::Items(k) => write_list(
-            tokens,
-            sums,
-            finals,
-            records,
-            labels,
-            side,
-            used,
-            history_skips,
-            n,
-            counts,
-            entry_nexts,
-            kept_hashes,
-            kept_links,
-            kept_sums,
-            list,
-            k,
-            max,
-            route,
-            words,
-            frames,
-            segments,
-            numbers,
-            costs,
-        ),
+        Listing::Items(k) => {
+            // The keys are not needed any more.
+            routes::fill_counts(records, labels, used, history_keys);
+            write_list(
+                tokens,
+                sums,
+                finals,
+                records,
+                labels,
+                side,
+                used,
+                history_skips,
+                history_keys,
+                n,
+                counts,
+                entry_nexts,
+                kept_hashes,
+                kept_links,
+                kept_sums,
+                list,
+                k,
+                max,
+                route,
+                words,
+                frames,
+                segments,
+                numbers,
+                costs,
+            )
+        }
     }
 }

@@ -2,6 +2,7 @@
 pub mod Back
 pub mod Words
 pub mod Skips
+pub mod Counts
 pub mod Before
 pub mod Written
 pub mod Entries

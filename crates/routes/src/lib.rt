@@ -1,16 +1,18 @@
-// The words of a history along a route, newest first, and the routes of entries. At a join on the route the walk goes down the kept history, at any other down the winner's.
+// The words of a history along a route, newest first, how many each record's history has, and the routes of entries. At a join on the route the walk goes down the kept history,
+// at any other down the winner's.
 ghost use mathlib.Core.Path.{_≡_};
 ghost use Prim.Native.Nat.{_+_, _-_, _*_, _≤_, _<_};
-ghost use mathlib.Core.Bool.{_&&_, _||_};
+ghost use mathlib.Core.Bool.{_&&_, _||_, cond};
 ghost use mathlib.Core.List.{reverse};
 ghost use lib.ListN.{length};
-ghost use Rattle.model.specs.Basics.{eqℤ, ltℤ};
+ghost use Rattle.model.specs.Basics.{eqℤ, ltℤ, nonzero};
 ghost use Rattle.model.specs.Path.{sameWords};
 ghost use Rattle.model.specs.Readings.{wordsLt};
 ghost use Rattle.summaries.specs.Summed.{Skips};
 ghost use Rattle.traceback.specs.Chain.{Walkable};
 ghost use Rattle.routes.specs.Back.{backAlong, NextOn, Skipped, WordsWritten};
 ghost use Rattle.routes.specs.Before.{beforeBy};
+ghost use Rattle.routes.specs.Counts.{countAt, Counts};
 ghost use Rattle.routes.specs.Entries.{JoinPut, RouteAsks, RouteIs};
 
 // A word, and the record to go on from; word 0 at the end.
@@ -185,6 +187,51 @@ pub fn count_words(
         }
         n += 1;
         r = x.next;
+    }
+}
+
+// How many words a record's history has, out of the table. 0 is no record.
+pub fn count_at(history_counts: &[u64], r: u32) -> u32
+    requires { ⌜ (r ≤ length (now «history_counts»)) × (countAt (now «history_counts») r ≤ r) ⌝ }
+    ensures { λ n. ⌜ n ≡ countAt (now («history_counts» .entry)) r ⌝ }
+{
+    if r == 0 {
+        return 0;
+    }
+    history_counts[(r - 1) as usize] as u32
+}
+
+// One more where there is a word; 0 is none.
+fn count_over(n: u32, word: i32) -> u32
+    requires { ⌜ n < 1_048_576 ⌝ }
+    ensures { λ r. ⌜ r ≡ n + cond (nonzero word) 1 0 ⌝ }
+{
+    if word != 0 {
+        return n + 1;
+    }
+    n
+}
+
+// Puts record number k + 1 into the table, where those below it stand.
+fn put_count(records: &[u32], labels: &[i32], used: u32, k: u32, history_counts: &mut [u64])
+    requires { ⌜ (Walkable (now records) (now labels) used) × (k < used) × (Counts (now records) (now labels) used k (now «history_counts»)) ⌝ }
+    ensures { λ _. ⌜ Counts (now (records .entry)) (now (labels .entry)) used (k + 1) (now («history_counts» .exit)) ⌝ }
+{
+    let prev = records::prev_of(records, k + 1);
+    let word = records::word_of(labels, k + 1);
+    let n = count_over(count_at(history_counts, prev), word);
+    history_counts[k as usize] = n as u64;
+}
+
+// Counts the words of every record's history down to the start, in ascending order, since the record before a record has a lower number.
+pub fn fill_counts(records: &[u32], labels: &[i32], used: u32, history_counts: &mut [u64])
+    requires { ⌜ (Walkable (now records) (now labels) used) × (used ≤ length (now «history_counts»)) ⌝ }
+    ensures { λ _. ⌜ Counts (now (records .entry)) (now (labels .entry)) used used (now («history_counts» .exit)) ⌝ }
+{
+    let mut k = 0;
+    while k < used {
+        put_count(records, labels, used, k, history_counts);
+        k += 1;
     }
 }
 
