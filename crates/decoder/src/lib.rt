@@ -34,6 +34,7 @@ use traceback::BestPath;
 
 // What the decoder holds beside the lent stores: the graph's counts, the settings, the places for records, the keep margin if there is one, which table the
 // next pass writes (the other one is the finished one), the frames decoded, the latest seq and the records in use.
+#[repr(C)]
 pub struct Decoder {
     pub graph: Graph,
     pub config: Config,

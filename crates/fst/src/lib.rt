@@ -31,6 +31,7 @@ pub struct Refusal {
 }
 
 // What is known of an accepted graph beside its slices: the counts of states and arcs, the start, and the count of pdfs.
+#[repr(C)]
 pub struct Graph {
     pub states: u32,
     pub arcs: u32,

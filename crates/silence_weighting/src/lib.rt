@@ -17,6 +17,7 @@ ghost use Rattle.silence_weighting.specs.Parts.{statusOf, toldTo, weight
 const WINDOW: usize = 100;
 
 // The state. A call takes it and gives the next one back.
+#[repr(C)]
 pub struct SilenceWeighting {
     // the weight of silence
     pub weight: f32,
