@@ -188,7 +188,7 @@ impl Fit {
         rec(FIT, &[self.beam.to_bits(), self.max, self.min, self.delta.to_bits(), self.places,
             self.records, self.queue, self.below, self.kept])
     }
-    fn from_words(w: &[u32]) -> Option<Fit> {
+    pub fn from_words(w: &[u32]) -> Option<Fit> {
         if w.len() < 4 || w.len() > 9 {
             return None;
         }

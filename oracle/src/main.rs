@@ -12,6 +12,8 @@ mod compare;
 mod fuzz;
 mod probe;
 mod bench;
+#[cfg(feature = "proved")]
+mod proved;
 
 macro_rules! copy {
     ($name:ident, $file:literal) => {
@@ -50,6 +52,7 @@ oracle gensilence SEED     silence calls
 oracle gensearch SEED      searches of a word
 oracle sample DIR N CASE.. the committed sample: N scripts of each generator, and these cases
 oracle compare PROGRAM FROM TO [KIND..]   seeds FROM to TO of four generators against a program; without these kinds
+oracle against FROM TO     seeds FROM to TO of six generators against the proved library, in one process (built with --features proved)
 oracle probe               experiments on limits and worst cases
 oracle fuzz SEED COUNT [DIR]   ascending against unmodified, and the refusing copy's checks
 oracle bench [STATES]"
@@ -137,6 +140,8 @@ fn real() {
             let without: Vec<u32> = args[4..].iter().filter_map(|a| a.parse().ok()).collect();
             compare::run(&args[1], num(2).unwrap_or(1), num(3).unwrap_or(1), &without)
         }
+        #[cfg(feature = "proved")]
+        Some("against") => proved::run(num(1).unwrap_or(1), num(2).unwrap_or(1)),
         Some("fuzz") => fuzz::run(num(1).unwrap_or(1), num(2).unwrap_or(1000), args.get(3).map_or("cases", |s| s)),
         Some("probe") => probe::run(),
         Some("bench") => bench::run(num(1)),
