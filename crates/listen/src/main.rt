@@ -1,7 +1,8 @@
-// Runs the decoder on a recorded call and writes the words heard, a line for each, with its frames: from its own first one up to the next word's.
+// Runs the decoder on a recorded call, three times over, and writes the words heard, a line for each: its frames, from its own first one up to the next word's, and the
+// course that was on the needles at the first.
 //
 // The call is "dropped stitch, carrier two" on a busy floor. In every frame carrier three is as likely as carrier two, so that two paths tie to the last bit. The
-// rule for ties decides, on every build the same: states are visited in ascending number, and of equal ranks the newest token wins.
+// rule for ties decides, each time and on every build the same: states are visited in ascending number, and of equal ranks the newest token wins.
 ghost use Prim.Native.Nat.{_≤_, _<_};
 ghost use mathlib.Core.List.{[], _∷_};
 ghost use lib.ListN.{length};
@@ -30,6 +31,14 @@ const CARRIER_THREE: i32 = 4;
 const SOUNDS: u32 = 4;
 
 const FRAMES: u32 = 8;
+
+// The machine knits so many courses in so many frames.
+const COURSES: u64 = 3;
+
+const COURSE_FRAMES: u64 = 4;
+
+// How often the call is heard.
+const TIMES: u32 = 3;
 
 // The graph has a state for each sound: 0 silence, 1 carrier three, 2 carrier two, 3 dropped stitch. The call starts in silence and ends in either carrier.
 //
@@ -60,16 +69,19 @@ fn main() {
     // by sound, of which none has the number 0
     let tid2pdf = [-1i32, 0, 1, 2, 3];
     let tid2phone = [0i32, 1, 2, 3, 4];
-    listen(
-        &offsets,
-        &ilabels,
-        &olabels,
-        &weights,
-        &nextstates,
-        &finals,
-        &tid2pdf,
-        &tid2phone,
-    );
+    for _ in 0..TIMES {
+        write_text(b"heard:\n");
+        listen(
+            &offsets,
+            &ilabels,
+            &olabels,
+            &weights,
+            &nextstates,
+            &finals,
+            &tid2pdf,
+            &tid2phone,
+        );
+    }
 }
 
 // The log-likelihoods of a frame: silence, dropped stitch, carrier two, carrier three.
@@ -287,11 +299,18 @@ fn next_start(frames: &[u32], i: usize, n: usize, end: u32) -> u32
     if i + 1 < n { frames[i + 1] } else { end }
 }
 
+// The course on the needles in a frame.
+fn course_at(frame: u32) -> u64 {
+    frame as u64 * COURSES / COURSE_FRAMES
+}
+
 fn write_word(word: i32, from: u32, to: u32) {
-    write_text(b"frames ");
+    write_text(b"  frames ");
     io::print_decimal(STDOUT_FILENO, from as u64);
     write_text(b"..");
     io::print_decimal(STDOUT_FILENO, to as u64);
+    write_text(b"  course ");
+    io::print_decimal(STDOUT_FILENO, course_at(from));
     write_text(b"  ");
     write_name(word);
     write_text(b"\n");
