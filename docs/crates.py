@@ -48,7 +48,7 @@ MARGIN = 30
 def read_needs(path):
     needs = {}
     for line in path.read_text(encoding="utf-8").splitlines():
-        name, colon, rest = line.partition(":")
+        name, colon, rest = line.partition("#")[0].partition(":")
         if colon:
             needs[name.strip()] = rest.split()
     return needs
