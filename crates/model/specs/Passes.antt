@@ -149,13 +149,21 @@ setKeep m st = elim (fairMargin m) [ true ↦ ok (record { margin = m; frames = 
 
 -- ---- the fitter's check
 
--- the places of the lent stores: of each that is kept per state, and of the records
+-- The places of the lent stores: of each slice kept per state; of the record store, and of each slice kept per record; of the store for kept readings, and of each slice kept per kept reading.
 pub record Places : Type 0 where
   pub perState : List ℕ
   pub records : ℕ
+  pub perRecord : List ℕ
+  pub kept : ℕ
+  pub perKept : List ℕ
 
+-- n places or more in each
+abbrev pub atLeast : ℕ → List ℕ → Bool
+atLeast n places = all (λ p. leb n p) places
+
+-- 6: settings, then stores
 unfoldable pub checkFit : Graph → Config → Places → Option ℕ
 checkFit g c ps =
     refuse 6
-    (not (fair (c .beam)) || not (fair (c .beam-delta)) || leb (c .max-active) (c .min-active) || not (all (λ n. leb (states g) n) (ps .perState)) ||
-    ltb 1_048_576 (ps .records))
+    (not (fair (c .beam)) || not (fair (c .beam-delta)) || leb (c .max-active) (c .min-active) ||
+    not (atLeast (states g) (ps .perState)) || ltb 1_048_576 (ps .records) || not (atLeast (ps .records) (ps .perRecord)) || not (atLeast (ps .kept) (ps .perKept)))
