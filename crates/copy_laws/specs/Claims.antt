@@ -3,7 +3,7 @@ use mathlib.Core.Path.{_≡_}
 use Prim.Native.Nat.{ℕ}
 use mathlib.Core.Bool.{Bool, true, false, cond}
 use mathlib.Core.Option.{Option, none, some}
-use mathlib.Core.List.{List, [], map}
+use mathlib.Core.List.{List, [], _∷_, map}
 use lib.ListN.{length}
 use lib.Dec.{T, eqb}
 use lib.IntN.{ℤ}
@@ -19,7 +19,7 @@ use Rattle.model.specs.Arrive.{Work}
 use Rattle.model.specs.Passes.{emittingPass, nonemittingPass, State, during, startWork}
 use Rattle.model.specs.Reads.{Ranked, useFinals, ranked as rankedTokens, Traced, Group}
 use Rattle.model.specs.Readings.{Below, below, readings as listing}
-use Rattle.model.specs.Calls.{Sizes, bestPathRead, alternativesRead, readingsRead, relativeCostRead, numActiveRead, framesDecodedRead, Call, startCall, frameCall, keepCall, readCall, Reading, Answer, refusalAnswer, doneAnswer, pathAnswer, pathsAnswer, readingsAnswer, countAnswer, costAnswer}
+use Rattle.model.specs.Calls.{Sizes, Read, bestPathRead, alternativesRead, readingsRead, relativeCostRead, numActiveRead, framesDecodedRead, Call, startCall, frameCall, keepCall, readCall, Reading, Answer, refusalAnswer, doneAnswer, pathAnswer, pathsAnswer, readingsAnswer, countAnswer, costAnswer}
 use Rattle.copy_laws.specs.Walks.{emitted, Walk, wordsOn, sumOf}
 use Rattle.copy_laws.specs.Routes.{along, arcs}
 use Rattle.copy_laws.specs.Tables.{At}
@@ -102,6 +102,24 @@ pub data Says (g : Graph) (c : Config) (ks : List (Call × ℕ)) : Call → Answ
   saysActive : (n : ℕ) → Says g c ks (readCall numActiveRead) (countAnswer n)
   -- "Frames decoded, the frame count, are those accepted since the latest start."
   saysDecoded : {n : ℕ} → n ≡ length (reached g c ks .heard) → Says g c ks (readCall framesDecodedRead) (countAnswer n)
+
+-- ---- of a refusal
+
+-- document 01's numbers that a read can be refused by: output too short, more than 64 asked for, and 15 of the reading list
+abbrev pub readRefusals : Read → List ℕ
+readRefusals (bestPathRead f z) = 11 ∷ []
+readRefusals (alternativesRead f max z) = 6 ∷ 11 ∷ []
+readRefusals (readingsRead f n max z) = 6 ∷ 15 ∷ 11 ∷ []
+readRefusals relativeCostRead = []
+readRefusals numActiveRead = []
+readRefusals framesDecodedRead = []
+
+-- and a call
+abbrev pub refusalsOf : Call → List ℕ
+refusalsOf startCall = 12 ∷ 13 ∷ 14 ∷ []
+refusalsOf (frameCall ls) = 10 ∷ 8 ∷ 9 ∷ 12 ∷ 13 ∷ 14 ∷ []
+refusalsOf (keepCall m) = 6 ∷ []
+refusalsOf (readCall r) = readRefusals r
 
 -- ---- of the copy itself
 

@@ -120,22 +120,23 @@ module _ (h : Here) (inside : (s : ℕ) (a : Arc) → a ∈ arcsOf (h .graph) s 
       go [] e rec = loopEnds e
       go (s ∷ q) e rec = turn s q e rec (expand h s (getD (w .table) s none) (popped w q)) refl (turn-goes n s q w e g)
 
-  -- From a table of f32 costs, with nothing requeued yet, the fuel is enough.
+  -- from a table of f32 costs, with nothing requeued yet
+  pub enough : (w : Work) → length (w .table) ≡ len → Fits (w .table) → w .queue ≡ [] → w .requeued ≡ [] → (v : Work) → Starts (h .graph) w v → Going (fuel (h .graph)) v
+  enough w long costs nq nr v b =
+      let same = b .same .table in
+      let l : length (v .table) ≡ len = ap length same ∙ long in
+      let f : Fits (v .table) = subst Fits (sym same) costs in
+      let x : worth (v .table) ≤ len * 2 ^ 33 = subst (λ (k : ℕ). worth (v .table) ≤ k * 2 ^ 33) l (worth-le (v .table) f) in
+      let y = b .few in
+      let z : spare len (v .requeued) ≡ len = ap (spare len) (b .none-requeued nr) ∙ spare-nil len in
+      let k = ap length nq in
+      record { long = l; costs = f; small = omega arith }
+
+  -- the fuel is enough
   pub pass-runs : (w : Work) → length (w .table) ≡ len → Fits (w .table) → w .queue ≡ [] → w .requeued ≡ [] → Runs h w (nonemittingPass h w)
   unfolding nonemittingPass
   pass-runs w long costs nq nr = go (pushFrom h 0 (w .table) w) refl (push-starts h w)
     where
-      enough : (v : Work) → Starts (h .graph) w v → Going (fuel (h .graph)) v
-      enough v b =
-          let same = b .same .table in
-          let l : length (v .table) ≡ len = ap length same ∙ long in
-          let f : Fits (v .table) = subst Fits (sym same) costs in
-          let x : worth (v .table) ≤ len * 2 ^ 33 = subst (λ (k : ℕ). worth (v .table) ≤ k * 2 ^ 33) l (worth-le (v .table) f) in
-          let y = b .few in
-          let z : spare len (v .requeued) ≡ len = ap (spare len) (b .none-requeued nr) ∙ spare-nil len in
-          let k = ap length nq in
-          record { long = l; costs = f; small = omega arith }
-
       go : (o : Outcome Work) → pushFrom h 0 (w .table) w ≡ o → Ok (Starts (h .graph) w) o → Runs h w (o >>= λ v. drain (fuel (h .graph)) h v)
-      go (ok v) e b = runLoops v e (drain-loops (fuel (h .graph)) v (enough v b))
+      go (ok v) e b = runLoops v e (drain-loops (fuel (h .graph)) v (enough w long costs nq nr v b))
       go (refused n) e b = runRefused n e

@@ -27,6 +27,7 @@ pub mod Uncut
 -- lists of calls, and the copy that is told
 pub mod Points
 pub mod Cuts
+pub mod Remembered
 pub mod Agrees
 pub mod Told
 -- what is read
@@ -45,10 +46,13 @@ pub mod Relative
 pub mod Ways
 pub mod Folded
 pub mod Groups
+pub mod Traces
 -- the claims
 pub mod Claims
 pub mod Answers
 pub mod Sayings
+pub mod Refusals
+pub mod StartSums
 pub mod Statement
 -- closed cases
 pub mod Cases

@@ -32,7 +32,7 @@ weaker : (g : Graph) (pt : Point) (U W : Type 0) (finals : Bool) (o : Option Tra
 weaker g pt U W finals none f b = λ e s v. b e s (f v)
 weaker g pt U W finals (some tr) f b = record { own = b .own; least = λ e s v. b .least e s (f v) }
 
-uncut : (g : Graph) (c : Config) (ks : List (Call × ℕ)) → NothingCut g c ks → reached g c ks .cut ≡ false
+pub uncut : (g : Graph) (c : Config) (ks : List (Call × ℕ)) → NothingCut g c ks → reached g c ks .cut ≡ false
 uncut g c ks f = case (either (reached g c ks .cut)) (λ e. absurd (f (cut-happened g c ks e))) (λ e. e)
 
 module _ (g : Graph) (c : Config) (ks : List (Call × ℕ)) where

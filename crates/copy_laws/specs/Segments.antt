@@ -38,7 +38,7 @@ phonesOn g route = map (phoneOf g) (keepIf emits route)
 -- ---- the records of arcs
 
 -- From phone ph and k emitting arcs on, to n of them: these are the phones of the emitting arcs that follow.
-data Marks : (ph : ℤ) → (k n : ℕ) → List Rec → List ℤ → Type 0 where
+pub data Marks : (ph : ℤ) → (k n : ℕ) → List Rec → List ℤ → Type 0 where
   marksEnd : {ph : ℤ} {n : ℕ} → Marks ph n n [] []
   marksEpsilon : {ph : ℤ} {k n : ℕ} {r : Rec} {rs : List Rec} {qs : List ℤ} → r .phone ≡ pos 0 → Marks ph k n rs qs → Marks ph k n (r ∷ rs) qs
   marksEmitting : {ph : ℤ} {k n : ℕ} {r : Rec} {rs : List Rec} {qs : List ℤ} (q : ℤ) → nonzero q ≡ true → r .frame ≡ k → r .phone ≡ startedBy q ph → Marks q (suc k) n rs qs → Marks ph k n (r ∷ rs) (q ∷ qs)
@@ -140,12 +140,14 @@ leads-arcs g s (b ∷ route) t l a (there m) = leads-arcs g (b .target) route t 
 phoned : (g : Graph) → GoodGraph g → (s : ℕ) (route : List Arc) (t : ℕ) → Leads g s route t → Phoned g route
 phoned g good s route t l a m e = let (u, k) = leads-arcs g s route t l a m in ap nonzero (good .arc u a k .emitting e .phone-is)
 
+pub own-marks : (g : Graph) → GoodGraph g → (n s : ℕ) (p : Path) → Marked g p → Leads g (g .start) (arcs p) s → emitted (arcs p) ≡ n → Marks (pos 0) 0 n (recsOn [] n p []) (phonesOn g (arcs p) ++ [])
+own-marks g good n s p m l e = recs-mark g n p [] [] m (phoned g good (g .start) (arcs p) s l) (subst (λ (k : ℕ). Marks (phoneOn g p) k n [] []) (sym e) marksEnd)
+
 pub own-segments : (g : Graph) → GoodGraph g → (n s : ℕ) (p : Path) (cost : Float) → Marked g p → Leads g (g .start) (arcs p) s → emitted (arcs p) ≡ n
     → Tiles 0 n (trace n [] p cost .phones) × (spelled (trace n [] p cost .phones) ≡ phonesOn g (arcs p))
 unfolding trace
 own-segments g good n s p cost m l e =
-    let d = recs-mark g n p [] [] m (phoned g good (g .start) (arcs p) s l) (subst (λ (k : ℕ). Marks (phoneOn g p) k n [] []) (sym e) marksEnd) in
-    let r = spell-all n (recsOn [] n p []) (phonesOn g (arcs p) ++ []) d in
+    let r = spell-all n (recsOn [] n p []) (phonesOn g (arcs p) ++ []) (own-marks g good n s p m l e) in
     (r .tiles, r .spells ∙ append-nil (phonesOn g (arcs p)))
 
 -- none at 0

@@ -175,6 +175,17 @@ unfoldable pub limitedAfter : Graph → Config → List (Limits × Call) → Sta
 limitedAfter g c [] st = st
 limitedAfter g c (k ∷ ks) st = limitedAfter g c ks (call g c (k .0) (k .1) st .state)
 
+-- with one call more
+pub limited-more : (g : Graph) (c : Config) (ks : List (Limits × Call)) (k : Limits × Call) (st : State) → limitedFrom g c (ks ++ (k ∷ [])) st ≡ limitedFrom g c ks st ++ (call g c (k .0) (k .1) (limitedAfter g c ks st) .answer ∷ [])
+unfolding limitedFrom limitedAfter
+limited-more g c [] k st = refl
+limited-more g c (j ∷ ks) k st = let s = call g c (j .0) (j .1) st in ap (λ (l : List Answer). s .answer ∷ l) (limited-more g c ks k (s .state))
+
+pub after-more : (g : Graph) (c : Config) (ks : List (Limits × Call)) (k : Limits × Call) (st : State) → limitedAfter g c (ks ++ (k ∷ [])) st ≡ call g c (k .0) (k .1) (limitedAfter g c ks st) .state
+unfolding limitedAfter
+after-more g c [] k st = refl
+after-more g c (j ∷ ks) k st = after-more g c ks k (call g c (j .0) (j .1) st .state)
+
 -- the calls, with what the copy is told of each
 unfoldable pub tellFrom : Graph → Config → List (Limits × Call) → State → List (Call × ℕ)
 tellFrom g c [] st = []
