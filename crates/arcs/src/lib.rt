@@ -157,7 +157,7 @@ pub fn push(queue: &mut [u32], w: Work, s: u32) -> Passed
 {
     let n = w.queued;
     if queue.len() <= n {
-        return Passed::Refused(14);
+        return Passed::Refused(refusals::QUEUE_FULL);
     }
     queue[n] = s;
     Passed::On(Work {

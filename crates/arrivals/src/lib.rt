@@ -99,13 +99,13 @@ fn put_on(
     ensures { λ r. ⌜ PutOnIs (now (records .entry)) (now (records .exit)) (now (labels .entry)) (now (labels .exit)) setting used source a r ⌝ }
 {
     if !real32::is_tame(a.graph) {
-        return PutOn::Refused(12);
+        return PutOn::Refused(refusals::SUM_TOO_LARGE);
     }
     if !is_link(source, a) {
         return PutOn::On(source.link, used);
     }
     if used == setting.cap {
-        return PutOn::Refused(13);
+        return PutOn::Refused(refusals::RECORDS_FULL);
     }
     let word = a.word;
     let starts = starts(source, a);
@@ -229,7 +229,7 @@ fn beat(
                         seq: counts.seq,
                     },
                 ),
-                Keeping::Full => Settled::Refused(13),
+                Keeping::Full => Settled::Refused(refusals::RECORDS_FULL),
                 Keeping::Joined(r) => Settled::Wins(
                     with_link(new, r),
                     Counts {
@@ -274,7 +274,7 @@ fn lose(
         starts(source, a),
     ) {
         Keeping::Dropped => Settled::Stays,
-        Keeping::Full => Settled::Refused(13),
+        Keeping::Full => Settled::Refused(refusals::RECORDS_FULL),
         Keeping::Joined(r) => Settled::Joins(
             with_link(held, r),
             Counts {
@@ -403,7 +403,7 @@ pub fn arrive(
         return Arrived::Cut;
     }
     if !real32::is_tame(a.total) {
-        return Arrived::Refused(12);
+        return Arrived::Refused(refusals::SUM_TOO_LARGE);
     }
     let made = make_room(
         tokens,

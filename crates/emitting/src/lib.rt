@@ -43,7 +43,7 @@ fn look_at(
     }
     let total = weights[i] + offset - arcs::loglike(ilabels, tid2pdf, loglikes, i) + cost;
     if !real32::is_tame(total) {
-        return Looked::Refused(12);
+        return Looked::Refused(refusals::SUM_TOO_LARGE);
     }
     Looked::Next(arcs::lower(pass, total, next))
 }

@@ -13,7 +13,7 @@ use lib.Ieee.{Float, nan}
 use Rattle.lists.specs.Lists.{range}
 use Rattle.model.specs.Basics.{0f, ltℤ, firstOf, Place, nowhere, atArc, Refusal}
 use Rattle.model.specs.Graph.{Graph, Arc, states, emits, phoneOf, labelWrong, weightWrong, arcAt, refuseAt, checkArc, checkArcs}
-use Rattle.fst.specs.declared.Place.the-variants.{AtArc}
+use Rattle.refusals.specs.declared.Place.the-variants.{AtArc}
 use Rattle.fst.specs.declared.Found.the-variants.{Nothing, Fault}
 use Rattle.lists.specs.Members.{getD-any}
 use Rattle.fst.proofs.Walk.{refuses, passes}

@@ -15,7 +15,7 @@ use Rattle.lists.specs.Parts.{part-length, part-at}
 use Rattle.model.specs.Basics.{0f, firstOf, Place, atArc, Refusal}
 use Rattle.model.specs.Graph.{Graph, arcAt, checkArc, checkArcs, checkStates}
 use Rattle.fst.specs.declared.Found.the-variants.{Nothing, Fault}
-use Rattle.fst.specs.declared.Refusal.{Refusal as R}
+use Rattle.refusals.specs.declared.Refusal.{Refusal as R}
 use Rattle.fst.specs.Answer.{graphOf, tablesOf, withoutWords, arcOf, foundOf, checkPart}
 use Rattle.fst.proofs.Arcs.{reads}
 use Rattle.fst.proofs.Walk.{refuses, passes, no-fault, the-fault}

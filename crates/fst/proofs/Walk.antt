@@ -7,7 +7,7 @@ use lib.ListN.{length, getD, drop}
 use lib.Seq.{drop-cons, drop-length}
 use native.Mathlib.Omega.{arith}
 use Rattle.model.specs.Basics.{firstOf, Refusal as Wrong}
-use Rattle.fst.specs.declared.Refusal.{Refusal}
+use Rattle.refusals.specs.declared.Refusal.{Refusal}
 use Rattle.fst.specs.declared.Found.the-variants.{Nothing, Fault}
 use Rattle.fst.specs.Answer.{foundOf, refusalOf}
 

@@ -1,17 +1,16 @@
 -- Final weights: past the list's end the definition has +∞, and an element's default does not count. Assumes nothing.
-use mathlib.Core.Path.{_≡_, refl, sym, _∙_, ap}
+use mathlib.Core.Path.{_≡_, sym, _∙_, ap}
 use mathlib.Core.Bool.{true, false}
 use mathlib.Core.List.{List, [], _∷_}
 use Prim.Native.Nat.{ℕ, suc, _+_, _<_, _≤_}
 use native.Mathlib.Numerals.{add-one}
 use mathlib.Core.Option.{Option}
 use lib.ListN.{length, getD, drop, List·getD-eq-default}
-use lib.Ieee.{Float, nan, inf, fin, lt}
+use lib.Ieee.{Float, nan, inf}
 use lib.Ieee.Scale.{finite}
-use Rattle.lists.specs.Tests.{never}
 use Rattle.model.specs.Basics.{firstOf, atState, Refusal}
 use Rattle.model.specs.Graph.{finalWrong, refuseAt, checkFinals}
-use Rattle.fst.specs.declared.Place.the-variants.{AtState}
+use Rattle.refusals.specs.declared.Place.the-variants.{AtState}
 use Rattle.fst.specs.declared.Found.the-variants.{Nothing, Fault}
 use Rattle.fst.specs.Answer.{foundOf}
 use Rattle.fst.proofs.Walk.{at-end, in-turn, refuses, passes}

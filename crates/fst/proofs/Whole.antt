@@ -5,8 +5,8 @@ use mathlib.Core.List.{[], _∷_}
 use mathlib.Core.Option.{Option, none}
 use Rattle.model.specs.Basics.{firstOf, nowhere, Refusal as Wrong}
 use Rattle.model.specs.Graph.{Graph, shapeWrong, startWrong, refuseAt, checkStates, checkFinals, checkGraph}
-use Rattle.fst.specs.declared.Place.the-variants.{Nowhere}
-use Rattle.fst.specs.declared.Refusal.{Refusal}
+use Rattle.refusals.specs.declared.Place.the-variants.{Nowhere}
+use Rattle.refusals.specs.declared.Refusal.{Refusal}
 use Rattle.fst.specs.declared.Built.the-variants.{Refused}
 use Rattle.fst.specs.declared.Built.{Built}
 use Rattle.fst.specs.declared.Found.the-variants.{Nothing, Fault}

@@ -11,9 +11,9 @@ use lib.Ieee.{Float}
 use Rattle.lists.specs.Lists.{range}
 use Rattle.model.specs.Basics.{ltℤ, firstOf, Place as Where, nowhere, atArc, atState, atFrames, Refusal as Wrong}
 use Rattle.model.specs.Graph.{Graph, Arc, states, emits, phoneOf, labelWrong, runsFrom0, refuseAt, arcAt, checkArcs, checkGraph}
-use Rattle.fst.specs.declared.Place.{Place}
-use Rattle.fst.specs.declared.Place.the-variants.{Nowhere, AtArc, AtState, AtFrames}
-use Rattle.fst.specs.declared.Refusal.{Refusal}
+use Rattle.refusals.specs.declared.Place.{Place}
+use Rattle.refusals.specs.declared.Place.the-variants.{Nowhere, AtArc, AtState, AtFrames}
+use Rattle.refusals.specs.declared.Refusal.{Refusal}
 use Rattle.fst.specs.declared.Graph.{Graph as Value}
 use Rattle.fst.specs.declared.Built.{Built}
 use Rattle.fst.specs.declared.Built.the-variants.{Accepted, Refused}

@@ -6,29 +6,15 @@ ghost use mathlib.Core.Bool.{true, not};
 ghost use mathlib.Core.List.{[]};
 ghost use lib.ListN.{length, getD};
 ghost use Rattle.lists.specs.Lists.{any};
-ghost use Rattle.model.specs.Basics.{0f, ∞, nonzero, nowhere};
+ghost use Rattle.model.specs.Basics.{0f, nonzero, nowhere};
 ghost use Rattle.model.specs.Graph.{Graph as ModelGraph, runsFrom0, shapeWrong, startWrong, weightWrong, finalWrong, checkArc, checkStates, checkFinals, isFinal};
 ghost use Rattle.fst.specs.Epsilons.{EpsFilled};
 ghost use Rattle.fst.specs.Answer.{graphOf, tablesOf, arcOf, numberOf, checkLabel, withoutWords, checkPart, Shaped, foundOf, buildOf};
+use refusals::Place;
+use refusals::Refusal;
 
 // The start of a graph that has none.
 pub const NO_STATE: u32 = 4_294_967_295;
-
-// Where a refusal was met.
-pub enum Place {
-    Nowhere,
-    // a state, and an arc counted within it
-    AtArc(u32, u32),
-    AtState(u32),
-    // the frames decoded
-    AtFrames(u32),
-}
-
-// A number of document 01, and where it was met.
-pub struct Refusal {
-    pub number: u32,
-    pub place: Place,
-}
 
 // What is known of an accepted graph beside its slices: the counts of states and arcs, the start, and the count of pdfs.
 #[repr(C)]
@@ -94,16 +80,16 @@ fn shape_wrong(
 {
     let states = finals.len();
     let arcs = ilabels.len();
-    if states > 65_535 {
+    if states > refusals::MAX_STATES {
         return true;
     }
-    if arcs > 1_048_576 {
+    if arcs > refusals::MAX_ARCS {
         return true;
     }
-    if tid2pdf.len() > 65_536 {
+    if tid2pdf.len() > refusals::MAX_TRANSITIONS {
         return true;
     }
-    if tid2phone.len() > 65_536 {
+    if tid2phone.len() > refusals::MAX_TRANSITIONS {
         return true;
     }
     if offsets.len() != states + 1 {
@@ -126,27 +112,27 @@ fn check_label(ilabel: i32, tid2pdf: &[i32], tid2phone: &[i32], pdfs: u32) -> u3
     ensures { λ r. ⌜ r ≡ numberOf (checkLabel (tablesOf [] (now (tid2pdf .entry)) (now (tid2phone .entry)) pdfs) (arcOf ilabel 0f 0)) ⌝ }
 {
     if ilabel < 0 {
-        return 3;
+        return refusals::BAD_LABEL;
     }
     if ilabel == 0 {
         return 0;
     }
     let i = ilabel as usize;
     if tid2pdf.len() <= i {
-        return 3;
+        return refusals::BAD_LABEL;
     }
     if tid2phone.len() <= i {
-        return 3;
+        return refusals::BAD_LABEL;
     }
     let pdf = tid2pdf[i];
     if pdf < 0 {
-        return 3;
+        return refusals::BAD_LABEL;
     }
     if pdfs <= pdf as u32 {
-        return 3;
+        return refusals::BAD_LABEL;
     }
     if tid2phone[i] < 1 {
-        return 4;
+        return refusals::BAD_PHONE;
     }
     0
 }
@@ -177,14 +163,14 @@ fn check_arc(
     ensures { λ r. ⌜ r ≡ numberOf (checkArc (tablesOf (now (finals .entry)) (now (tid2pdf .entry)) (now (tid2phone .entry)) pdfs) nowhere (arcOf ilabel weight nextstate)) ⌝ }
 {
     if finals.len() <= nextstate as usize {
-        return 2;
+        return refusals::NO_SUCH_STATE;
     }
     let label = check_label(ilabel, tid2pdf, tid2phone, pdfs);
     if label != 0 {
         return label;
     }
     if weight_wrong(ilabel, weight) {
-        return 5;
+        return refusals::BAD_WEIGHT;
     }
     0
 }
@@ -278,7 +264,7 @@ fn check_finals(finals: &[f32]) -> Found
     for s in 0..finals.len() {
         if final_wrong(finals[s]) {
             return Found::Fault(Refusal {
-                number: 5,
+                number: refusals::BAD_WEIGHT,
                 place: Place::AtState(s as u32),
             });
         }
@@ -331,10 +317,10 @@ pub fn build(
         tid2pdf,
         tid2phone,
     ) {
-        return refused(1);
+        return refused(refusals::BAD_SHAPE);
     }
     if start_wrong(start, finals) {
-        return refused(2);
+        return refused(refusals::NO_SUCH_STATE);
     }
     let arcs = check_states(
         offsets,

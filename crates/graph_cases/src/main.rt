@@ -2,7 +2,7 @@
 use fst::Built;
 use fst::Graph;
 use fst::NO_STATE;
-use fst::Place;
+use refusals::Place;
 ghost use Prim.Native.Nat.{_≤_};
 ghost use mathlib.Core.Path.{_≡_};
 ghost use lib.ListN.{length};
@@ -410,10 +410,10 @@ fn largest() {
     states(b"65535 states, start past them", 65535, 65535);
     states(b"65536 states", 65536, 0);
     let table = id_places();
-    ids(b"65536 ids", &table, 65535, 65536, 65536);
-    ids(b"65536 ids, label past them", &table, 65536, 65536, 65536);
-    ids(b"65537 pdfs", &table, 1, 65537, 65536);
-    ids(b"65537 phones", &table, 1, 65536, 65537);
+    ids(b"65536 ids", &table, 65536, 65537, 65537);
+    ids(b"65536 ids, label past them", &table, 65537, 65537, 65537);
+    ids(b"65537 pdfs", &table, 1, 65538, 65537);
+    ids(b"65537 phones", &table, 1, 65537, 65538);
 }
 
 // So many states with no arcs.
@@ -437,7 +437,7 @@ fn states(name: &[u8], count: usize, start: u32)
     tell(name, built);
 }
 
-// So many transition ids.
+// Tables with so many entries: transition ids are numbered from 1, so that entry 0 is no id's.
 fn ids(name: &[u8], table: &[i32], label: i32, pdfs: usize, phones: usize)
     requires { ⌜ (pdfs ≤ length (now table)) × (phones ≤ length (now table)) ⌝ }
 {
@@ -469,9 +469,9 @@ fn final_places() -> [f32; 65536]
     [0.0; 65536]
 }
 
-// Pdf 1 or phone 1 for each transition id.
-fn id_places() -> [i32; 65537]
-    ensures { λ r. ⌜ 65537 ≡ length r ⌝ }
+// Pdf 1 or phone 1 for each of 65,537 transition ids, and entry 0.
+fn id_places() -> [i32; 65538]
+    ensures { λ r. ⌜ 65538 ≡ length r ⌝ }
 {
-    [1; 65537]
+    [1; 65538]
 }

@@ -18,7 +18,7 @@ pub fn find(word: i32, ends: &[u32], words: &[i32]) -> Found
     ensures { λ r. ⌜ Searched word (listing (now (ends .entry)) (now (words .entry))) (foundOf r) ⌝ }
 {
     if parts_wrong(ends, words.len()) {
-        return Found::Refused(11);
+        return Found::Refused(refusals::TOO_SHORT);
     }
     search(word, ends, words)
 }

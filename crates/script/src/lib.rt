@@ -143,7 +143,7 @@ pub fn record_at(bytes: &[u8], at: usize) -> NextRecord
 }
 
 // Whether there are n words from a place on, and places for them.
-fn can_fill(bytes: &[u8], at: usize, n: usize, places: usize) -> bool
+pub fn can_fill(bytes: &[u8], at: usize, n: usize, places: usize) -> bool
     ensures { λ r. ⌜ r ≡ fitting (now (bytes .entry)) at n places ⌝ }
 {
     if places < n {

@@ -102,7 +102,7 @@ fn settings_wrong(weight: f32, subsampling: u32) -> bool
     if subsampling < 1 {
         return true;
     }
-    if 16 < subsampling {
+    if refusals::MAX_SUBSAMPLING < subsampling {
         return true;
     }
     !real32::is_tame(weight)
@@ -112,7 +112,7 @@ fn settings_wrong(weight: f32, subsampling: u32) -> bool
 fn too_many(store: usize, frames: usize) -> bool
     ensures { λ r. ⌜ r ≡ tooMany store frames ⌝ }
 {
-    if 65_536 < frames {
+    if refusals::MAX_SILENCE_FRAMES < frames {
         return true;
     }
     store < frames
@@ -154,7 +154,7 @@ fn bad_segments(phones: &[i32], starts: &[u32], ends: &[u32]) -> bool
     ensures { λ r. ⌜ r ≡ badSegments (segmentsOf (now (phones .entry)) (now (starts .entry)) (now (ends .entry))) ⌝ }
 {
     let count = segment_count(phones, starts, ends);
-    if 65_536 < count {
+    if refusals::MAX_SEGMENTS < count {
         return true;
     }
     let mut i = 0;
@@ -162,7 +162,7 @@ fn bad_segments(phones: &[i32], starts: &[u32], ends: &[u32]) -> bool
         if ends[i] < starts[i] {
             return true;
         }
-        if 65_536 < ends[i] {
+        if refusals::MAX_FRAMES < ends[i] {
             return true;
         }
         i += 1;
@@ -390,7 +390,7 @@ pub fn trailing_silence_frames(
     ensures { λ r. ⌜ TrailingRight (now («silence_phones» .entry)) (now (phones .entry)) (now (starts .entry)) (now (ends .entry)) r ⌝ }
 {
     if bad_segments(phones, starts, ends) {
-        return Trailing::Refused(10);
+        return Trailing::Refused(refusals::TOO_MANY_FRAMES);
     }
     Trailing::Frames(trailing_frames(silence_phones, phones, starts, ends))
 }
@@ -401,7 +401,7 @@ impl SilenceWeighting {
         ensures { λ r. ⌜ NewRight weight subsampling r ⌝ }
     {
         if settings_wrong(weight, subsampling) {
-            return Next::Refused(7);
+            return Next::Refused(refusals::BAD_SILENCE_SETTING);
         }
         Next::State(SilenceWeighting {
             weight,
@@ -437,16 +437,16 @@ impl SilenceWeighting {
         let decoded = num_frames_decoded as usize;
         let store = smaller(status.len(), weights.len());
         if settings_wrong(self.weight, self.subsampling) {
-            return Next::Refused(7);
+            return Next::Refused(refusals::BAD_SILENCE_SETTING);
         }
         if too_many(store, listed) {
-            return Next::Refused(10);
+            return Next::Refused(refusals::TOO_MANY_FRAMES);
         }
         if too_many(store, decoded) {
-            return Next::Refused(10);
+            return Next::Refused(refusals::TOO_MANY_FRAMES);
         }
         if bad_segments(phones, starts, ends) {
-            return Next::Refused(10);
+            return Next::Refused(refusals::TOO_MANY_FRAMES);
         }
         fill_status(status, listed, decoded, 0);
         fill_weights(weights, listed, decoded, 0.0);
@@ -486,17 +486,17 @@ impl SilenceWeighting {
         ensures { λ r. ⌜ r ≡ planOf self ready first room (now (status .entry)) (now (weights .entry)) ⌝ }
     {
         if settings_wrong(self.weight, self.subsampling) {
-            return Plan::Refused(7);
+            return Plan::Refused(refusals::BAD_SILENCE_SETTING);
         }
         let store = smaller(status.len(), weights.len());
         if too_many(store, self.frames as usize) {
-            return Plan::Refused(10);
+            return Plan::Refused(refusals::TOO_MANY_FRAMES);
         }
-        if 4_294_967_296 < ready {
-            return Plan::Refused(10);
+        if refusals::MAX_FRAME_NAMED < ready {
+            return Plan::Refused(refusals::TOO_MANY_FRAMES);
         }
-        if 4_294_967_296 < first {
-            return Plan::Refused(10);
+        if refusals::MAX_FRAME_NAMED < first {
+            return Plan::Refused(refusals::TOO_MANY_FRAMES);
         }
         if ready <= first {
             return Plan::Nothing;
@@ -504,12 +504,12 @@ impl SilenceWeighting {
         let fs = self.subsampling as u64;
         let needed = ((ready - first + (fs - 1)) / fs) as usize;
         if too_many(store, needed) {
-            return Plan::Refused(10);
+            return Plan::Refused(refusals::TOO_MANY_FRAMES);
         }
         let window = self.window(needed, first, status, weights);
         let count = count_deltas(window, status, weights);
         if room < count {
-            return Plan::Refused(11);
+            return Plan::Refused(refusals::TOO_SHORT);
         }
         Plan::Write { window, count }
     }

@@ -508,7 +508,7 @@ pub fn trace(
 {
     let size = measure(records, labels, route, used, n, link);
     if too_short(size, words.len(), frames.len(), segments.len() / 3) {
-        return Traced::Refused(11);
+        return Traced::Refused(refusals::TOO_SHORT);
     }
     write(
         records,

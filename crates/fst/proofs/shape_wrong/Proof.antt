@@ -3,8 +3,10 @@ use borrow.Author.Needs.{needs}
 use borrow.Author.Tests.{lt-ltb, le-ltb, eq-eqb, ne-eqb}
 use mathlib.Core.Path.{_≡_, refl, sym, _∙_}
 use mathlib.Core.Bool.{Bool, true, false, _||_}
-use Prim.Native.Nat.{suc}
+use Prim.Native.Nat.{ℕ, suc, _-_, _<_, _≤_}
 use native.Mathlib.Numerals.{add-one}
+use native.Mathlib.Omega.{arith}
+use lib.Dec.{ltb}
 use lib.ListN.{length}
 use Rattle.model.specs.Graph.{shapeWrong}
 use Rattle.fst.proofs.shape_wrong.Statement.{statement}
@@ -13,6 +15,13 @@ use Rattle.fst.proofs.shape_wrong.Tie as tie
 or-true : (b : Bool) → (b || true) ≡ true
 or-true true = refl
 or-true false = refl
+
+-- entry 0 is no id
+more-ids : (n : ℕ) → 65_537 < n → ltb 65_536 (n - 1) ≡ true
+more-ids n h = lt-ltb 65_536 (n - 1) (omega arith)
+
+no-more-ids : (n : ℕ) → n ≤ 65_537 → ltb 65_536 (n - 1) ≡ false
+no-more-ids n h = le-ltb 65_536 (n - 1) (omega arith)
 
 returns : tie.Need-returns
 unfolding shapeWrong
@@ -24,11 +33,11 @@ returns-2 c = simp (lt-ltb _ _ (c .if2 .taken), or-true)
 
 returns-3 : tie.Need-returns-3
 unfolding shapeWrong
-returns-3 c = simp (lt-ltb _ _ (c .if3 .taken), or-true)
+returns-3 c = simp (more-ids _ (c .if3 .taken), or-true)
 
 returns-4 : tie.Need-returns-4
 unfolding shapeWrong
-returns-4 c = simp (lt-ltb _ _ (c .if4 .taken), or-true)
+returns-4 c = simp (more-ids _ (c .if4 .taken), or-true)
 
 add-if5 : tie.Need-add-if5
 add-if5 c = search needs
@@ -60,8 +69,8 @@ returns-9 c =
     simp (
       le-ltb _ _ (d .before .before .before .before .before .before .before .if1 .left),
       le-ltb _ _ (d .before .before .before .before .before .before .if2 .left),
-      le-ltb _ _ (d .before .before .before .before .before .if3 .left),
-      le-ltb _ _ (d .before .before .before .before .if4 .left),
+      no-more-ids _ (d .before .before .before .before .before .if3 .left),
+      no-more-ids _ (d .before .before .before .before .if4 .left),
       eq-eqb (length (a .offsets .now)) (suc (length (a .finals .now))) (d .before .before .before .if5 .left ∙ add-one (length (a .finals .now))),
       eq-eqb _ _ (d .before .before .if6 .left),
       eq-eqb _ _ (d .before .if7 .left),
