@@ -47,9 +47,10 @@ pub record Scratch : Type 0 where
   pub list : ℕ
   pub lists : ℕ
   pub route : ℕ
+  pub order : ℕ
 
-abbrev pub scratch : (keys places own heads list lists route : ℕ) → Scratch
-scratch k p o h l j r = record { keys = k; places = p; own = o; heads = h; list = l; lists = j; route = r }
+abbrev pub scratch : (keys places own heads list lists route order : ℕ) → Scratch
+scratch k p o h l j r q = record { keys = k; places = p; own = o; heads = h; list = l; lists = j; route = r; order = q }
 
 -- stores that stand for a state of the copy
 pub record StoresAsk (tk : List ℕ) (sm fs : List Float) (rs : List ℕ) (ls : List ℤ) (gs : List Float) (n b used : ℕ) (keeps : Bool) (margin : Float) : Type 0 where
@@ -64,20 +65,22 @@ pub record StoresAsk (tk : List ℕ) (sm fs : List Float) (rs : List ℕ) (ls : 
   pub situation : Situation tk sm fs rs ls gs n b used keeps margin
   pub known : (counts : Bool) (s : ℕ) → s < n → (heldAt tk (placeIn b s) ≡ 0 → ⊥) → (c : Candidate) → candidateAt tk sm fs b s counts ≡ TokenOf c → T (not (isNan (c .rank)))
 
--- a place for every state, and for every record
-pub record ScratchWide (n used : ℕ) (z : Scratch) : Type 0 where
+-- a place for every state, for every record, and for every kept reading that the store has places for
+pub record ScratchWide (n used kept : ℕ) (z : Scratch) : Type 0 where
   pub keys : n ≤ z .keys
+  pub keys-kept : kept ≤ z .keys
   pub places : n ≤ z .places
   pub own : n ≤ z .own
   pub heads : n ≤ z .heads
-  pub list : n ≤ z .list
+  pub list : n + kept ≤ z .list
   pub lists : used * 2 ≤ z .lists
   pub route : used ≤ z .route
+  pub order : kept ≤ z .order
 
 -- stores and scratch
-pub record ListingAsks (tk : List ℕ) (sm fs : List Float) (rs : List ℕ) (ls : List ℤ) (gs : List Float) (n b used : ℕ) (keeps : Bool) (margin : Float) (z : Scratch) : Type 0 where
+pub record ListingAsks (tk : List ℕ) (sm fs : List Float) (rs : List ℕ) (ls : List ℤ) (gs : List Float) (n b used : ℕ) (keeps : Bool) (margin : Float) (kept : ℕ) (z : Scratch) : Type 0 where
   pub stores : StoresAsk tk sm fs rs ls gs n b used keeps margin
-  pub wide : ScratchWide n used z
+  pub wide : ScratchWide n used kept z
 
 -- ---- the own groups
 

@@ -11,6 +11,6 @@ least a b = cond (ltb b a) b a
 abbrev pub entryPlaces : (hashes nexts sums : ℕ) → ℕ
 entryPlaces h x s = least (least h (x / 3)) (least (s / 2) 0x7fff_fff0)
 
--- as many kept readings as their slices hold, the keys that they are sorted by, and the list behind a place for every state
-abbrev pub keptPlaces : (hashes links sums keys order list : ℕ) → ℕ
-keptPlaces h l s k o x = least (least (least (least h (l / 4)) (least (s / 2) k)) o) (least x 0x7fff_fff0)
+-- as many kept readings as the three slices hold
+abbrev pub keptPlaces : (hashes links sums : ℕ) → ℕ
+keptPlaces h l s = least (least h (l / 4)) (least (s / 2) 0x7fff_fff0)

@@ -37,26 +37,13 @@ module _ (h x s : ℕ) {r : ℕ} (is : r ≡ entryPlaces h x s) where
       let z = least-of-four h (x / 3) (s / 2) 0x7fff_fff0 in
       record { hashes = omega arith; nexts = omega arith; sums = omega arith }
 
-module _ (h l s k o x : ℕ) {r : ℕ} (is : r ≡ keptPlaces h l s k o x) where
-  abbrev stored : ℕ
-  stored = least (least h (l / 4)) (least (s / 2) k)
-
-  -- of the keys, the order, what is left of the list, and numbers
-  pub record Fewer : Type 0 where
-    pub keys : r ≤ k
-    pub order : r ≤ o
-    pub list : r ≤ x
-    pub numbers : r ≤ 0x7fff_fff0
-
-  pub kept-few : Fewer
-  kept-few =
-      let z = least-of-four stored o x 0x7fff_fff0 in
-      let y = least-of-four h (l / 4) (s / 2) k in
-      record { keys = omega arith; order = omega arith; list = omega arith; numbers = omega arith }
+module _ (h l s : ℕ) {r : ℕ} (is : r ≡ keptPlaces h l s) where
+  -- numbers of kept readings fit
+  pub kept-few : r ≤ 0x7fff_fff0
+  kept-few = let z = least-of-four h (l / 4) (s / 2) 0x7fff_fff0 .3 in omega arith
 
   -- the stores of kept readings hold them
   pub kept-room : {hs ns : List ℕ} {xs : List Float} → length hs ≡ h → length ns ≡ l → length xs ≡ s → Room hs ns xs r
   kept-room p q v =
-      let z = least-of-four stored o x 0x7fff_fff0 in
-      let y = least-of-four h (l / 4) (s / 2) k in
+      let z = least-of-four h (l / 4) (s / 2) 0x7fff_fff0 in
       record { hashes = omega arith; links = omega arith; sums = omega arith }

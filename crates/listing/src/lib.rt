@@ -1,7 +1,7 @@
 // The list of all readings: own groups and kept readings, one of each word list, in the order in which they are listed.
 ghost use mathlib.Core.Path.{_≡_};
 ghost use mathlib.Core.Bool.{true, _&&_};
-ghost use Prim.Native.Nat.{_-_, _≤_, _<_};
+ghost use Prim.Native.Nat.{_≤_, _<_};
 ghost use lib.Dec.{ltb};
 ghost use lib.ListN.{length};
 ghost use Rattle.summaries.specs.Summed.{Keys, Summed};
@@ -54,19 +54,11 @@ fn entry_places(hashes: usize, nexts: usize, sums: usize) -> u32
     smaller(smaller(hashes, nexts / 3), smaller(sums / 2, 0x7fff_fff0)) as u32
 }
 
-// How many kept readings their stores hold, and the list behind a place for every state.
-fn kept_places(
-    hashes: usize,
-    links: usize,
-    sums: usize,
-    keys: usize,
-    order: usize,
-    list: usize,
-) -> usize
-    ensures { λ r. ⌜ r ≡ keptPlaces hashes links sums keys order list ⌝ }
+// How many kept readings their stores hold.
+pub fn kept_places(hashes: usize, links: usize, sums: usize) -> usize
+    ensures { λ r. ⌜ r ≡ keptPlaces hashes links sums ⌝ }
 {
-    let stored = smaller(smaller(hashes, links / 4), smaller(sums / 2, keys));
-    smaller(smaller(stored, order), smaller(list, 0x7fff_fff0))
+    smaller(smaller(hashes, links / 4), smaller(sums / 2, 0x7fff_fff0))
 }
 
 // How many states are ranked, and how many of them are the first of their word list.
@@ -477,8 +469,8 @@ pub fn list_readings(
     kept_sums: &mut [f32],
     order: &mut [u32],
 ) -> Listing
-    requires { ⌜ (ListingAsks (now tokens) (now sums) (now finals) (now records) (now labels) (now gaps) states side used keeps margin (scratch (length (now keys)) (length (now places)) (length (now own)) (length (now heads)) (length (now list)) (length (now lists)) (length (now route)))) × (listed ≤ 64) × (Summed (now records) (now labels) used (now «history_keys») (now «history_skips»)) ⌝ }
-    ensures { λ r. ⌜ ListingIs (now (tokens .entry)) (now (sums .entry)) (now (finals .entry)) (now (records .entry)) (now (labels .entry)) (now (gaps .entry)) states side used keeps margin counts listed (entryPlaces (length (now (hashes .entry))) (length (now (nexts .entry))) (length (now (costs .entry)))) (keptPlaces (length (now («kept_hashes» .entry))) (length (now («kept_links» .entry))) (length (now («kept_sums» .entry))) (length (now (keys .entry))) (length (now (order .entry))) (length (now (list .entry)) - states)) (now (hashes .exit)) (now (nexts .exit)) (now (costs .exit)) (now («kept_hashes» .exit)) (now («kept_links» .exit)) (now («kept_sums» .exit)) (now (list .exit)) r ⌝ }
+    requires { ⌜ (ListingAsks (now tokens) (now sums) (now finals) (now records) (now labels) (now gaps) states side used keeps margin (keptPlaces (length (now «kept_hashes»)) (length (now «kept_links»)) (length (now «kept_sums»))) (scratch (length (now keys)) (length (now places)) (length (now own)) (length (now heads)) (length (now list)) (length (now lists)) (length (now route)) (length (now order)))) × (listed ≤ 64) × (Summed (now records) (now labels) used (now «history_keys») (now «history_skips»)) ⌝ }
+    ensures { λ r. ⌜ ListingIs (now (tokens .entry)) (now (sums .entry)) (now (finals .entry)) (now (records .entry)) (now (labels .entry)) (now (gaps .entry)) states side used keeps margin counts listed (entryPlaces (length (now (hashes .entry))) (length (now (nexts .entry))) (length (now (costs .entry)))) (keptPlaces (length (now («kept_hashes» .entry))) (length (now («kept_links» .entry))) (length (now («kept_sums» .entry)))) (now (hashes .exit)) (now (nexts .exit)) (now (costs .exit)) (now («kept_hashes» .exit)) (now («kept_links» .exit)) (now («kept_sums» .exit)) (now (list .exit)) r ⌝ }
 {
     let r = list_own(
         tokens,
@@ -502,14 +494,7 @@ pub fn list_readings(
         return Listing::Items(r.own);
     }
     let bound = bound_of(tokens, sums, finals, side, counts, own, r.own, listed);
-    let most = kept_places(
-        kept_hashes.len(),
-        kept_links.len(),
-        kept_sums.len(),
-        keys.len(),
-        order.len(),
-        list.len() - states as usize,
-    );
+    let most = kept_places(kept_hashes.len(), kept_links.len(), kept_sums.len());
     match find_kept(
         tokens,
         sums,

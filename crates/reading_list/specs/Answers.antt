@@ -1,14 +1,15 @@
 -- What is written is the definition's answer. Assumes nothing.
 use mathlib.Core.Path.{_≡_, refl, sym, _∙_, ap, ap₂, subst}
-use Prim.Native.Nat.{ℕ, zero, suc, _+_, _-_, _*_, _≤_, _<_}
+use Prim.Native.Nat.{ℕ, zero, suc, _+_, _-_, _≤_, _<_}
 use native.Mathlib.Omega.{arith}
+use native.Mathlib.Nat.{add-zero}
 use mathlib.Core.Bool.{Bool, true, false, _||_, cond}
 use mathlib.Core.Option.{Option}
-use mathlib.Core.List.{List, [], _∷_, map, map-map, List·Memᴰ·head as here, List·Memᴰ·tail as there}
+use mathlib.Core.List.{List, [], _∷_, _++_, map, map-map, List·Memᴰ·head as here, List·Memᴰ·tail as there}
 use lib.IntN.{ℤ}
 use lib.Dec.{ltb}
-use lib.ListN.{length, getD, take, drop, length-map, take-append-drop}
-use lib.Seq.{length-take-le, getD-take, take-all, drop-at}
+use lib.ListN.{length, getD, take, length-map}
+use lib.Seq.{length-take-le, getD-take, take-all}
 use lib.Ieee.{Float}
 use borrow.Author.Tests.{lt-ltb, le-ltb}
 use Rattle.lists.specs.Tests.{case, lt-or-le}
@@ -16,19 +17,20 @@ use Rattle.lists.specs.Lists.{_∈_, sum}
 use Rattle.lists.specs.Members.{member-at}
 use Rattle.model.specs.Basics.{refuse, firstOf, over}
 use Rattle.model.specs.Path.{Limits}
-use Rattle.model.specs.Reads.{Traced as Told, trace, traceGroups, Group}
+use Rattle.model.specs.Reads.{Segment, Traced as Told, trace, traceGroups, Group}
 use Rattle.model.specs.Readings.{readings}
-use Rattle.model.specs.Calls.{Reading, readingsAnswer, readingOf, short, wordsOf, unless, readReadings}
+use Rattle.model.specs.Calls.{Reading, Answer, readingsAnswer, readingOf, short, wordsOf, unless, readReadings}
 use Rattle.below.specs.Maps.{take-map}
-use Rattle.readings.specs.Paths.{lesserOf, wordsIn, framesIn, phonesIn, front, allWords, allFrames, allSegments}
-use Rattle.readings.specs.Fronts.{words-long, frames-long, segments-long, Plain, Plains}
+use Rattle.traceback.specs.Write.{flat}
+use Rattle.readings.specs.Paths.{lesserOf, framesIn, phonesIn, front, allWords, allFrames, allSegments, Plain, Plains}
 use Rattle.listing_laws.specs.Situation.{Situation}
 use Rattle.listing.specs.Listed.{overfull, ListIs}
-use Rattle.reading_list.specs.Outputs.{Outputs, placesIn, readingsIn, tracesIn}
-use Rattle.reading_list.specs.Right.{wordsIn as readWords, BehindList, StoresHold}
+use Rattle.reading_list.specs.declared.ReadingList.the-variants.{Readings}
+use Rattle.reading_list.specs.Outputs.{Outputs, placesIn, wordsOf as listWords, numbersOf, costsOf as costsFor, Traces, Phones}
+use Rattle.reading_list.specs.Right.{Agree, Filled as Holds, ReadingsAre, readingsListed, StoresHold}
 use Rattle.reading_list.specs.Lines.{Line, linesBy, toldsIn, View, view, lineIn, linesIn, numbersFrom, costsOf, Filled}
-use Rattle.reading_list.specs.Fronts.{many-lines, numbers-long, costs-long}
-use Rattle.reading_list.specs.Back.{readingFor, filled-readings, filled-traces}
+use Rattle.reading_list.specs.Fronts.{many-lines}
+use Rattle.reading_list.specs.Back.{readingFor}
 use Rattle.reading_list.specs.Groups.{group, reading-is, told-is, plain-is, item-is}
 
 -- ---- lines, one by one
@@ -63,14 +65,69 @@ module _ (f : ℕ → (traced : Bool) → Line) where
     traced-sum (suc max) [] = refl
     traced-sum (suc max) (x ∷ xs) = ap (λ (k : ℕ). one (f x true .told) + k) (traced-sum max xs)
 
+-- ---- lines as readings and traces
+
+lines-words : (xs : List Line) → allWords (toldsIn xs) ≡ listWords (map readingFor xs)
+lines-words [] = refl
+lines-words (x ∷ xs) = ap (λ (l : List ℤ). x .told .words ++ l) (lines-words xs)
+
+lines-costs : (xs : List Line) → costsOf xs ≡ costsFor (map readingFor xs)
+lines-costs [] = refl
+lines-costs (x ∷ xs) = ap (λ (l : List Float). x .rank ∷ x .told .cost ∷ x .token .cost ∷ x .token .graph ∷ l) (lines-costs xs)
+
+lines-phones : (xs : List Line) → Phones (map readingFor xs)
+lines-phones [] = tt
+lines-phones (x ∷ xs) = (refl, lines-phones xs)
+
+lines-traces : (max : ℕ) (xs : List Line) → Traces (toldsIn (take max xs)) (map readingFor xs)
+lines-traces zero [] = tt
+lines-traces zero (x ∷ xs) = tt
+lines-traces (suc max) [] = tt
+lines-traces (suc max) (x ∷ xs) = (refl, refl, lines-traces max xs)
+
+-- where the traced ones come first
+module _ (f : ℕ → (traced : Bool) → Line) (no-frames : (x : ℕ) → f x false .told .wordFrames ≡ []) (no-phones : (x : ℕ) → f x false .told .phones ≡ []) where
+  lines-frames : (max : ℕ) (xs : List ℕ) → allFrames (toldsIn (linesBy f max xs)) ≡ allFrames (toldsIn (take max (linesBy f max xs)))
+  lines-frames zero [] = refl
+  lines-frames zero (x ∷ xs) = ap (λ (l : List ℕ). l ++ allFrames (toldsIn (linesBy f zero xs))) (no-frames x) ∙ rest xs
+    where
+      rest : (ys : List ℕ) → allFrames (toldsIn (linesBy f zero ys)) ≡ []
+      rest [] = refl
+      rest (y ∷ ys) = ap (λ (l : List ℕ). l ++ allFrames (toldsIn (linesBy f zero ys))) (no-frames y) ∙ rest ys
+  lines-frames (suc max) [] = refl
+  lines-frames (suc max) (x ∷ xs) = ap (λ (l : List ℕ). f x true .told .wordFrames ++ l) (lines-frames max xs)
+
+  lines-segments : (max : ℕ) (xs : List ℕ) → allSegments (toldsIn (linesBy f max xs)) ≡ allSegments (toldsIn (take max (linesBy f max xs)))
+  lines-segments zero [] = refl
+  lines-segments zero (x ∷ xs) = ap (λ (l : List Segment). flat l ++ allSegments (toldsIn (linesBy f zero xs))) (no-phones x) ∙ rest xs
+    where
+      rest : (ys : List ℕ) → allSegments (toldsIn (linesBy f zero ys)) ≡ []
+      rest [] = refl
+      rest (y ∷ ys) = ap (λ (l : List Segment). flat l ++ allSegments (toldsIn (linesBy f zero ys))) (no-phones y) ∙ rest ys
+  lines-segments (suc max) [] = refl
+  lines-segments (suc max) (x ∷ xs) = ap (λ (l : List ℕ). flat (f x true .told .phones) ++ l) (lines-segments max xs)
+
+  lines-numbers : (max : ℕ) (xs : List ℕ) (w s : ℕ) → numbersFrom w s (linesBy f max xs) ≡ numbersOf w s (map readingFor (linesBy f max xs)) (toldsIn (take max (linesBy f max xs)))
+  lines-numbers max [] w s = refl
+  lines-numbers zero (x ∷ xs) w s =
+      let y = f x false in
+      let e = w + length (y .told .words) in
+      ap (λ (d : ℕ). e ∷ d ∷ y .kept ∷ y .token .phone ∷ y .token .seq ∷ numbersFrom e d (linesBy f zero xs)) (ap (λ (l : List Segment). s + length l) (no-phones x) ∙ add-zero s)
+      ∙ ap (λ (l : List ℕ). e ∷ s ∷ y .kept ∷ y .token .phone ∷ y .token .seq ∷ l) (lines-numbers zero xs e s ∙ ap (λ (ts : List Told). numbersOf e s (map readingFor (linesBy f zero xs)) ts) (none (linesBy f zero xs)))
+    where
+      none : (l : List Line) → toldsIn (take zero l) ≡ []
+      none [] = refl
+      none (z ∷ l) = refl
+  lines-numbers (suc max) (x ∷ xs) w s =
+      let y = f x true in
+      let e = w + length (y .told .words) in
+      let d = s + length (y .told .phones) in
+      ap (λ (l : List ℕ). e ∷ d ∷ y .kept ∷ y .token .phone ∷ y .token .seq ∷ l) (lines-numbers max xs e d)
+
 first-many : (max : ℕ) (xs : List Line) → length (take max xs) ≡ lesserOf max (length xs)
 first-many max xs =
     case (lt-or-le (length xs) max) (λ l. ap length (take-all max xs (omega arith)) ∙ sym (ap (λ (b : Bool). cond b (length xs) max) (lt-ltb (length xs) max l)))
     (λ l. length-take-le max xs l ∙ sym (ap (λ (b : Bool). cond b (length xs) max) (le-ltb (length xs) max l)))
-
-read-words : (xs : List Line) → readWords (map readingFor xs) ≡ wordsIn (toldsIn xs)
-read-words [] = refl
-read-words (x ∷ xs) = ap (λ (k : ℕ). length (x .told .words) + k) (read-words xs)
 
 for-each : (list : List ℕ) (k : ℕ) → k ≤ length list → (P : ℕ → Type 0) → ((i : ℕ) → i < k → P (getD list i 0)) → (x : ℕ) → x ∈ take k list → P x
 for-each list k l P p x m =
@@ -80,9 +137,6 @@ for-each list k l P p x m =
     subst P (sym (getD-take k list i 0 j) ∙ e) (p i j)
 
 -- ---- what was written
-
-behind : {A : Type 0} (x y vs : List A) (j : ℕ) → y ≡ front x vs → length vs ≡ j → drop j y ≡ drop j x
-behind x y vs j e h = ap (drop j) e ∙ drop-at vs (drop (length vs) x) j h ∙ ap (λ (i : ℕ). drop i x) h
 
 module _ {tk : List ℕ} {sm fs : List Float} {rs : List ℕ} {ls : List ℤ} {gs : List Float} {n b used : ℕ} {keeps : Bool} {margin : Float} (S : Situation tk sm fs rs ls gs n b used keeps margin) {counts use-final : Bool} {listed : ℕ} {hs ns : List ℕ} {xs : List Float}
     {khs kns : List ℕ} {kxs : List Float} {list : List ℕ} {k : ℕ} (L : ListIs S counts use-final listed hs ns xs khs kns kxs list k) (long : k ≤ length list) (decoded max : ℕ) where
@@ -159,23 +213,24 @@ module _ {tk : List ℕ} {sm fs : List Float} {rs : List ℕ} {ls : List ℤ} {g
     as-many : length lines ≡ k
     as-many = many-lines (lineIn seen) max k list long
 
-    pub readings-back : readingsIn k o' ≡ map readingFor lines
-    readings-back = ap (λ (j : ℕ). readingsIn j o') (sym as-many) ∙ filled-readings lines f
-
-    pub traces-back : tracesIn (lesserOf max k) o' ≡ toldsIn (take max lines)
-    traces-back =
-        ap (λ (j : ℕ). tracesIn j o') (sym (first-many max lines ∙ ap (lesserOf max) as-many))
-        ∙ filled-traces (take max lines) (drop max lines) (subst (λ (l : List Line). Filled l o o') (sym (take-append-drop max lines)) f) plains
-
-    pub left-behind : BehindList k (lesserOf max k) o o'
-    left-behind =
-        let w : length (allWords tolds) ≡ readWords (readingsIn k o') = words-long tolds ∙ sym (ap readWords readings-back ∙ read-words lines) in
-        let fr : length (allFrames tolds) ≡ framesIn (tracesIn (lesserOf max k) o') = frames-long tolds ∙ sym (ap framesIn traces-back ∙ frames-same) in
-        let ph : length (allSegments tolds) ≡ phonesIn (tracesIn (lesserOf max k) o') * 3 = segments-long tolds ∙ sym (ap (λ (j : ℕ). j * 3) (ap phonesIn traces-back ∙ phones-same)) in
+    agree : Agree max (map readingFor lines) (toldsIn (take max lines))
+    agree =
         record {
-          words = behind (o .words) (o' .words) (allWords tolds) (readWords (readingsIn k o')) (f .words) w;
-          frames = behind (o .frames) (o' .frames) (allFrames tolds) (framesIn (tracesIn (lesserOf max k) o')) (f .frames) fr;
-          segments = behind (o .segments) (o' .segments) (allSegments tolds) (phonesIn (tracesIn (lesserOf max k) o') * 3) (f .segments) ph;
-          numbers = behind (o .numbers) (o' .numbers) (numbersFrom 0 0 lines) (k * 5) (f .numbers) (numbers-long 0 0 lines ∙ ap (λ (j : ℕ). j * 5) as-many);
-          costs = behind (o .costs) (o' .costs) (costsOf lines) (k * 4) (f .costs) (costs-long lines ∙ ap (λ (j : ℕ). j * 4) as-many);
+          many = length-map (take max lines) (λ (x : Line). x .told) ∙ first-many max lines ∙ ap (lesserOf max) (sym (length-map lines readingFor));
+          traces = lines-traces max lines;
+          plains = plains;
+          phones = lines-phones lines;
         }
+
+    holds : Holds (map readingFor lines) (toldsIn (take max lines)) o o'
+    holds =
+        record {
+          words = f .words ∙ ap (front (o .words)) (lines-words lines);
+          frames = f .frames ∙ ap (front (o .frames)) (lines-frames (lineIn seen) (λ x. refl) (λ x. refl) max (take k list));
+          segments = f .segments ∙ ap (front (o .segments)) (lines-segments (lineIn seen) (λ x. refl) (λ x. refl) max (take k list));
+          numbers = f .numbers ∙ ap (front (o .numbers)) (lines-numbers (lineIn seen) (λ x. refl) (λ x. refl) max (take k list) 0 0);
+          costs = f .costs ∙ ap (front (o .costs)) (lines-costs lines);
+        }
+
+    pub readings-are-listed : {a : Answer} → a ≡ readingsAnswer (map readingFor lines) (toldsIn (take max lines)) → ReadingsAre a max o o' (Readings k)
+    readings-are-listed {a} e = subst (λ (j : ℕ). ReadingsAre a max o o' (Readings j)) (length-map lines readingFor ∙ as-many) (readingsListed (map readingFor lines) (toldsIn (take max lines)) e agree holds)

@@ -4,18 +4,21 @@ use Prim.Native.Nat.{ℕ, zero, suc, _+_, _-_, _*_}
 use native.Mathlib.Omega.{arith}
 use native.Mathlib.Nat.{add-zero}
 use mathlib.Core.List.{List, [], _∷_, _++_, map, append-assoc, map-append}
-use lib.IntN.{ℤ, pos}
-use lib.ListN.{length, getD, take, drop, length-append}
+use lib.IntN.{ℤ, pos, natAbs}
+use lib.ListN.{length, getD, take, drop, length-append, length-map, take-append-drop}
 use lib.Seq.{take-at, drop-at, getD-append-add}
 use lib.Ieee.{Float, nan}
 use Rattle.lists.specs.Lists.{range}
-use Rattle.model.specs.Reads.{Traced as Told}
-use Rattle.model.specs.Calls.{Reading}
+use Rattle.model.specs.Reads.{Segment, Traced as Told}
+use Rattle.model.specs.Calls.{Reading, Answer, readingsAnswer}
 use Rattle.traceback.specs.Write.{flat}
 use Rattle.traceback.specs.Right.{segmentsIn}
-use Rattle.readings.specs.Paths.{wordsIn, framesIn, phonesIn, front, allWords, allFrames, allSegments}
-use Rattle.readings.specs.Fronts.{words-long, frames-long, segments-long, frames-sum, words-sum, Plain, Plains}
-use Rattle.reading_list.specs.Outputs.{Outputs, wordsEnd, segmentsEnd, readingAt, traceAt, readingsIn, tracesIn}
+use Rattle.readings.specs.Paths.{wordsIn, framesIn, phonesIn, front, allWords, allFrames, allSegments, Plain, Plains}
+use Rattle.readings.specs.Fronts.{words-long, frames-long, segments-long, frames-sum, words-sum}
+use Rattle.reading_list.specs.declared.ReadingList.{ReadingList}
+use Rattle.reading_list.specs.declared.ReadingList.the-variants.{Readings}
+use Rattle.reading_list.specs.Outputs.{Outputs, wordsOf, numbersOf, costsOf as costsFor, Traces, Phones, wordsEnd, segmentsEnd, readingAt, traceAt, readingsIn, tracesIn}
+use Rattle.reading_list.specs.Right.{listAs, Filled as Holds, ReadingsAre, readingsRefused, readingsListed}
 use Rattle.reading_list.specs.Lines.{Line, toldsIn, numbersFrom, costsOf, Filled}
 use Rattle.reading_list.specs.Fronts.{tolds-more, numbers-long, costs-long, numbers-append, costs-append}
 
@@ -196,8 +199,105 @@ module _ {o o' : Outputs} where
       ap₂ (λ (t : Told) (ts : List Told). t ∷ ts) (trace-at xs y (ys ++ zs) f e (p .0))
       (ap (λ (k : ℕ). map (traceAt o') (range k (length ys))) (sym (longer xs y)) ∙ traces-back (xs ++ y ∷ []) ys zs (subst (λ (l : List Line). Filled l o o') (one-more xs y (ys ++ zs)) f) even (p .1))
 
-  pub filled-readings : (xs : List Line) → Filled xs o o' → readingsIn (length xs) o' ≡ map readingFor xs
+  filled-readings : (xs : List Line) → Filled xs o o' → readingsIn (length xs) o' ≡ map readingFor xs
   filled-readings xs f = readings-back [] xs f
 
-  pub filled-traces : (xs ys : List Line) → Filled (xs ++ ys) o o' → Plains (toldsIn xs) → tracesIn (length xs) o' ≡ toldsIn xs
+  filled-traces : (xs ys : List Line) → Filled (xs ++ ys) o o' → Plains (toldsIn xs) → tracesIn (length xs) o' ≡ toldsIn xs
   filled-traces xs ys f p = traces-back [] xs ys f refl p
+
+-- ---- readings and traces as lines
+
+abbrev lineFor : Reading → (frames : List ℕ) → List Segment → Line
+lineFor r fs ps =
+    record {
+      told = record { words = r .words; wordFrames = fs; phones = ps; cost = r .cost };
+      rank = r .rank;
+      kept = r .kept;
+      token = record { cost = r .tokenCost; graph = r .tokenGraph; link = 0; phone = natAbs (r .tokenPhone); seq = r .tokenSeq };
+    }
+
+abbrev linesFor : List Reading → List Told → List Line
+linesFor [] ts = []
+linesFor (r ∷ rs) [] = lineFor r [] [] ∷ linesFor rs []
+linesFor (r ∷ rs) (t ∷ ts) = lineFor r (t .wordFrames) (t .phones) ∷ linesFor rs ts
+
+words-for : (rs : List Reading) (ts : List Told) → allWords (toldsIn (linesFor rs ts)) ≡ wordsOf rs
+words-for [] ts = refl
+words-for (r ∷ rs) [] = ap (λ (l : List ℤ). r .words ++ l) (words-for rs [])
+words-for (r ∷ rs) (t ∷ ts) = ap (λ (l : List ℤ). r .words ++ l) (words-for rs ts)
+
+frames-for : (rs : List Reading) (ts : List Told) → Traces ts rs → allFrames (toldsIn (linesFor rs ts)) ≡ allFrames ts
+frames-for [] [] h = refl
+frames-for [] (t ∷ ts) h = elim h [ ]
+frames-for (r ∷ rs) [] h = frames-for rs [] tt
+frames-for (r ∷ rs) (t ∷ ts) h = ap (λ (l : List ℕ). t .wordFrames ++ l) (frames-for rs ts (h .2))
+
+segments-for : (rs : List Reading) (ts : List Told) → Traces ts rs → allSegments (toldsIn (linesFor rs ts)) ≡ allSegments ts
+segments-for [] [] h = refl
+segments-for [] (t ∷ ts) h = elim h [ ]
+segments-for (r ∷ rs) [] h = segments-for rs [] tt
+segments-for (r ∷ rs) (t ∷ ts) h = ap (λ (l : List ℕ). flat (t .phones) ++ l) (segments-for rs ts (h .2))
+
+numbers-for : (w s : ℕ) (rs : List Reading) (ts : List Told) → numbersFrom w s (linesFor rs ts) ≡ numbersOf w s rs ts
+numbers-for w s [] ts = refl
+numbers-for w s (r ∷ rs) [] =
+    ap (λ (d : ℕ). (w + length (r .words)) ∷ d ∷ r .kept ∷ natAbs (r .tokenPhone) ∷ r .tokenSeq ∷ numbersFrom (w + length (r .words)) d (linesFor rs [])) (add-zero s)
+    ∙ ap (λ (l : List ℕ). (w + length (r .words)) ∷ s ∷ r .kept ∷ natAbs (r .tokenPhone) ∷ r .tokenSeq ∷ l) (numbers-for (w + length (r .words)) s rs [])
+numbers-for w s (r ∷ rs) (t ∷ ts) =
+    let e = w + length (r .words) in
+    let d = s + length (t .phones) in
+    ap (λ (l : List ℕ). e ∷ d ∷ r .kept ∷ natAbs (r .tokenPhone) ∷ r .tokenSeq ∷ l) (numbers-for e d rs ts)
+
+costs-for : (rs : List Reading) (ts : List Told) → costsOf (linesFor rs ts) ≡ costsFor rs
+costs-for [] ts = refl
+costs-for (r ∷ rs) [] = ap (λ (l : List Float). r .rank ∷ r .cost ∷ r .tokenCost ∷ r .tokenGraph ∷ l) (costs-for rs [])
+costs-for (r ∷ rs) (t ∷ ts) = ap (λ (l : List Float). r .rank ∷ r .cost ∷ r .tokenCost ∷ r .tokenGraph ∷ l) (costs-for rs ts)
+
+-- the lines give back the readings
+reading-for : (r : Reading) (fs : List ℕ) (ps : List Segment) → pos (natAbs (r .tokenPhone)) ≡ r .tokenPhone → readingFor (lineFor r fs ps) ≡ r
+reading-for r fs ps e i = record { words = r .words; rank = r .rank; cost = r .cost; kept = r .kept; tokenCost = r .tokenCost; tokenGraph = r .tokenGraph; tokenPhone = e i; tokenSeq = r .tokenSeq }
+
+readings-for : (rs : List Reading) (ts : List Told) → Phones rs → map readingFor (linesFor rs ts) ≡ rs
+readings-for [] ts p = refl
+readings-for (r ∷ rs) [] p = ap₂ (λ (x : Reading) (xs : List Reading). x ∷ xs) (reading-for r [] [] (p .0)) (readings-for rs [] (p .1))
+readings-for (r ∷ rs) (t ∷ ts) p = ap₂ (λ (x : Reading) (xs : List Reading). x ∷ xs) (reading-for r (t .wordFrames) (t .phones) (p .0)) (readings-for rs ts (p .1))
+
+-- and the first of them the traces
+traces-for : (rs : List Reading) (ts : List Told) → Traces ts rs → toldsIn (take (length ts) (linesFor rs ts)) ≡ ts
+traces-for [] [] h = refl
+traces-for [] (t ∷ ts) h = elim h [ ]
+traces-for (r ∷ rs) [] h = refl
+traces-for (r ∷ rs) (t ∷ ts) h = ap₂ (λ (x : Told) (xs : List Told). x ∷ xs) (λ i. record { words = sym (h .0) i; wordFrames = t .wordFrames; phones = t .phones; cost = sym (h .1) i }) (traces-for rs ts (h .2))
+
+module _ {rs : List Reading} {ts : List Told} {o o' : Outputs} (h : Traces ts rs) (f : Holds rs ts o o') where
+  lines-filled : Filled (linesFor rs ts) o o'
+  lines-filled =
+      record {
+        words = f .words ∙ ap (front (o .words)) (sym (words-for rs ts));
+        frames = f .frames ∙ ap (front (o .frames)) (sym (frames-for rs ts h));
+        segments = f .segments ∙ ap (front (o .segments)) (sym (segments-for rs ts h));
+        numbers = f .numbers ∙ ap (front (o .numbers)) (sym (numbers-for 0 0 rs ts));
+        costs = f .costs ∙ ap (front (o .costs)) (sym (costs-for rs ts));
+      }
+
+  held-readings : Phones rs → readingsIn (length rs) o' ≡ rs
+  held-readings p =
+      let e = readings-for rs ts p in
+      ap (λ (k : ℕ). readingsIn k o') (ap length (sym e) ∙ length-map (linesFor rs ts) readingFor) ∙ filled-readings (linesFor rs ts) lines-filled ∙ e
+
+  held-traces : Plains ts → tracesIn (length ts) o' ≡ ts
+  held-traces p =
+      let xs = linesFor rs ts in
+      let n = length ts in
+      let e = traces-for rs ts h in
+      ap (λ (k : ℕ). tracesIn k o') (ap length (sym e) ∙ length-map (take n xs) (λ (x : Line). x .told))
+      ∙ filled-traces (take n xs) (drop n xs) (subst (λ (l : List Line). Filled l o o') (sym (take-append-drop n xs)) lines-filled) (subst Plains (sym e) p) ∙ e
+
+-- what was listed is read back
+pub list-back : {a : Answer} {max : ℕ} {o o' : Outputs} {r : ReadingList} → ReadingsAre a max o o' r → listAs max r o' ≡ a
+list-back (readingsRefused n e q) = sym e
+list-back {o' = o'} (readingsListed rs ts e g f) = ap₂ readingsAnswer (held-readings (g .traces) f (g .phones)) (ap (λ (k : ℕ). tracesIn k o') (sym (g .many)) ∙ held-traces (g .traces) f (g .plains)) ∙ sym e
+
+-- no reading is counted that the answer does not have
+pub list-count : {rs : List Reading} {ts : List Told} {max : ℕ} {o o' : Outputs} {k : ℕ} → ReadingsAre (readingsAnswer rs ts) max o o' (Readings k) → k ≡ length rs
+list-count {rs} (readingsListed qs us e g f) = let q : qs ≡ rs = cc in ap length q

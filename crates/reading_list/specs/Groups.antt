@@ -35,7 +35,7 @@ use Rattle.kept_readings.specs.Kept.{keptIn}
 use Rattle.kept_readings.specs.Meaning.{asKept, Head, stood}
 use Rattle.routes.specs.Entries.{joinsOf}
 use Rattle.routes.specs.Joins.{numbers-are, joins-routed}
-use Rattle.readings.specs.Fronts.{Plain}
+use Rattle.readings.specs.Paths.{Plain}
 use Rattle.readings.specs.Answers.{plain-of}
 use Rattle.listing_laws.specs.Situation.{Situation, Held}
 use Rattle.listing_laws.specs.Owns.{rankIn, groupIn, link-in}

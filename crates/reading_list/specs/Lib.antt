@@ -12,3 +12,4 @@ pub mod Behind
 pub mod Groups
 pub mod Answers
 pub mod Whole
+pub mod Scratch

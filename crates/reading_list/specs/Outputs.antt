@@ -1,7 +1,8 @@
 -- What stands in the lent slices of a reading list: words of all readings; frames of the words and segments of the first ones, which are traced; five numbers and four costs for each reading.
+use mathlib.Core.Path.{_≡_}
 use Prim.Native.Nat.{ℕ, zero, suc, _+_, _-_, _*_, _/_}
-use mathlib.Core.List.{List, map}
-use lib.IntN.{ℤ, pos}
+use mathlib.Core.List.{List, [], _∷_, _++_, map}
+use lib.IntN.{ℤ, pos, natAbs}
 use lib.ListN.{length, getD, take, drop}
 use lib.Ieee.{Float, nan}
 use Rattle.lists.specs.Lists.{range}
@@ -23,6 +24,37 @@ outputs ws fs ss ns cs = record { words = ws; frames = fs; segments = ss; number
 
 abbrev pub placesIn : Outputs → Sizes
 placesIn o = record { words = length (o .words); frames = length (o .frames); segments = length (o .segments) / 3; entries = lesserOf (length (o .numbers) / 5) (length (o .costs) / 4) }
+
+-- ---- what stands in them
+
+abbrev pub wordsOf : List Reading → List ℤ
+wordsOf [] = []
+wordsOf (r ∷ rs) = r .words ++ wordsOf rs
+
+-- Five numbers for each reading, the first reading behind w words and s segments: where its words end; where its segments end, which is where they began if it is not traced; how many kept histories it takes; its token's phone and seq.
+abbrev pub numbersOf : (w s : ℕ) → List Reading → List Told → List ℕ
+numbersOf w s [] ts = []
+numbersOf w s (r ∷ rs) [] = (w + length (r .words)) ∷ s ∷ r .kept ∷ natAbs (r .tokenPhone) ∷ r .tokenSeq ∷ numbersOf (w + length (r .words)) s rs []
+numbersOf w s (r ∷ rs) (t ∷ ts) =
+    (w + length (r .words)) ∷ (s + length (t .phones)) ∷ r .kept ∷ natAbs (r .tokenPhone) ∷ r .tokenSeq ∷ numbersOf (w + length (r .words)) (s + length (t .phones)) rs ts
+
+-- four costs for each reading
+abbrev pub costsOf : List Reading → List Float
+costsOf [] = []
+costsOf (r ∷ rs) = r .rank ∷ r .cost ∷ r .tokenCost ∷ r .tokenGraph ∷ costsOf rs
+
+-- the traces are of the first readings: their words and their costs
+abbrev pub Traces : List Told → List Reading → Type 0
+Traces [] rs = Unit {0}
+Traces (t ∷ ts) [] = ⊥
+Traces (t ∷ ts) (r ∷ rs) = (t .words ≡ r .words) × (t .cost ≡ r .cost) × Traces ts rs
+
+-- phones that are read as they were written
+abbrev pub Phones : List Reading → Type 0
+Phones [] = Unit {0}
+Phones (r ∷ rs) = (pos (natAbs (r .tokenPhone)) ≡ r .tokenPhone) × Phones rs
+
+-- ---- read back
 
 -- where the words and the segments of the first i readings end
 abbrev pub wordsEnd : (numbers : List ℕ) → ℕ → ℕ

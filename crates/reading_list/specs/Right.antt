@@ -1,39 +1,42 @@
 -- What the reading list must answer and leave in the lent slices.
 use mathlib.Core.Path.{_≡_}
-use Prim.Native.Nat.{ℕ, _*_}
+use Prim.Native.Nat.{ℕ}
 use mathlib.Core.Bool.{Bool}
 use mathlib.Core.Option.{some}
-use mathlib.Core.List.{List, map}
+use mathlib.Core.List.{List}
 use lib.IntN.{ℤ}
-use lib.ListN.{length, drop}
+use lib.ListN.{length}
 use lib.Ieee.{Float}
-use Rattle.lists.specs.Lists.{sum}
 use Rattle.model.specs.Path.{Limits}
+use Rattle.model.specs.Reads.{Traced as Told}
 use Rattle.model.specs.Calls.{Reading, Answer, readingsAnswer, refusedRead, readReadings}
-use Rattle.readings.specs.Paths.{lesserOf, framesIn, phonesIn}
+use Rattle.readings.specs.Paths.{lesserOf, front, allFrames, allSegments, Plains}
 use Rattle.listing_laws.specs.Situation.{Situation}
 use Rattle.reading_list.specs.declared.ReadingList.{ReadingList}
 use Rattle.reading_list.specs.declared.ReadingList.the-variants.{Refused, Readings}
-use Rattle.reading_list.specs.Outputs.{Outputs, placesIn, readingsIn, tracesIn}
+use Rattle.reading_list.specs.Outputs.{Outputs, placesIn, wordsOf, numbersOf, costsOf, Traces, Phones, readingsIn, tracesIn}
 
-abbrev pub listAs : (max : ℕ) → ReadingList → Outputs → Answer
-listAs max (Refused k) o = refusedRead k
-listAs max (Readings k) o = readingsAnswer (readingsIn k o) (tracesIn (lesserOf max k) o)
+-- the first `max` readings are traced, and all is read as it was written
+pub record Agree (max : ℕ) (rs : List Reading) (ts : List Told) : Type 0 where
+  pub many : length ts ≡ lesserOf max (length rs)
+  pub traces : Traces ts rs
+  pub plains : Plains ts
+  pub phones : Phones rs
 
-abbrev pub wordsIn : List Reading → ℕ
-wordsIn rs = sum (map (λ (r : Reading). length (r .words)) rs)
+-- These stand in front of each slice, and what lies behind is unchanged: the words of all readings; for the traces a frame for each word, and three numbers for each segment;
+-- for each reading five numbers (where its words end, where its segments end, how many kept histories it takes, its token's phone and seq) and four costs (its rank, its cost, its token's cost and graph sum).
+-- Ends are counted from the front. A reading that is not traced has no segments, and so ends where the one before it does.
+pub record Filled (rs : List Reading) (ts : List Told) (o o' : Outputs) : Type 0 where
+  pub words : o' .words ≡ front (o .words) (wordsOf rs)
+  pub frames : o' .frames ≡ front (o .frames) (allFrames ts)
+  pub segments : o' .segments ≡ front (o .segments) (allSegments ts)
+  pub numbers : o' .numbers ≡ front (o .numbers) (numbersOf 0 0 rs ts)
+  pub costs : o' .costs ≡ front (o .costs) (costsOf rs)
 
--- behind k readings, of which the first are traced, each slice is as it was
-pub record BehindList (k traced : ℕ) (o o' : Outputs) : Type 0 where
-  pub words : let w = wordsIn (readingsIn k o') in drop w (o' .words) ≡ drop w (o .words)
-  pub frames : let f = framesIn (tracesIn traced o') in drop f (o' .frames) ≡ drop f (o .frames)
-  pub segments : let s = phonesIn (tracesIn traced o') * 3 in drop s (o' .segments) ≡ drop s (o .segments)
-  pub numbers : drop (k * 5) (o' .numbers) ≡ drop (k * 5) (o .numbers)
-  pub costs : drop (k * 4) (o' .costs) ≡ drop (k * 4) (o .costs)
-
-abbrev pub ListKeeps : (max : ℕ) → ReadingList → (o o' : Outputs) → Type 0
-ListKeeps max (Refused k) o o' = o' ≡ o
-ListKeeps max (Readings k) o o' = BehindList k (lesserOf max k) o o'
+-- The answer and the slices, whole. A refusal leaves the slices as they were.
+pub data ReadingsAre (a : Answer) (max : ℕ) (o o' : Outputs) : ReadingList → Type 0 where
+  readingsRefused : (n : ℕ) → a ≡ refusedRead n → o' ≡ o → ReadingsAre a max o o' (Refused n)
+  readingsListed : (rs : List Reading) (ts : List Told) → a ≡ readingsAnswer rs ts → Agree max rs ts → Filled rs ts o o' → ReadingsAre a max o o' (Readings (length rs))
 
 -- these places for the lists below joins and for kept readings
 pub record StoresHold (l : Limits) (entries kept : ℕ) : Type 0 where
@@ -42,5 +45,10 @@ pub record StoresHold (l : Limits) (entries kept : ℕ) : Type 0 where
 
 -- the definition's answer, for every state that the stores stand for
 pub record ReadingsRight (tk : List ℕ) (sm fs : List Float) (rs : List ℕ) (ls : List ℤ) (gs : List Float) (n b used : ℕ) (keeps : Bool) (margin : Float) (decoded : ℕ) (use-final : Bool) (listed max entries kept : ℕ) (o o' : Outputs) (r : ReadingList) : Type 0 where
-  pub answer : (S : Situation tk sm fs rs ls gs n b used keeps margin) → S .st .frames ≡ decoded → (l : Limits) → StoresHold l entries kept → listAs max r o' ≡ readReadings (S .g) l (S .st) use-final listed max (placesIn o)
-  pub kept-is : ListKeeps max r o o'
+  pub answer : (S : Situation tk sm fs rs ls gs n b used keeps margin) → S .st .frames ≡ decoded → (l : Limits) → StoresHold l entries kept → ReadingsAre (readReadings (S .g) l (S .st) use-final listed max (placesIn o)) max o o' r
+
+-- ---- read back
+
+abbrev pub listAs : (max : ℕ) → ReadingList → Outputs → Answer
+listAs max (Refused k) o = refusedRead k
+listAs max (Readings k) o = readingsAnswer (readingsIn k o) (tracesIn (lesserOf max k) o)

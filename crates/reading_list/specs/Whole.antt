@@ -1,6 +1,6 @@
 -- The read as a whole: what its steps ask, and each way out. Assumes nothing.
-use mathlib.Core.Path.{_≡_, refl, sym, _∙_, ap, ap₂, subst}
-use Prim.Native.Nat.{ℕ, _+_, _*_, _/_, _≤_, _<_}
+use mathlib.Core.Path.{_≡_, refl, _∙_, ap, ap₂, subst}
+use Prim.Native.Nat.{ℕ, _+_, _*_, _≤_, _<_}
 use native.Mathlib.Omega.{arith}
 use mathlib.Core.Bool.{Bool, true, false, _||_}
 use mathlib.Core.Option.{Option}
@@ -10,7 +10,6 @@ use lib.Dec.{ltb}
 use lib.ListN.{length}
 use lib.Ieee.{Float}
 use borrow.Author.Tests.{lt-ltb, le-ltb}
-use Rattle.lists.specs.Tests.{case, lt-or-le}
 use Rattle.model.specs.Basics.{refuse, firstOf, over}
 use Rattle.model.specs.Reads.{traceGroups, Group, useFinals}
 use Rattle.model.specs.Readings.{readings}
@@ -19,24 +18,14 @@ use Rattle.traceback.specs.Table.{FinalsCount}
 use Rattle.listing_laws.specs.Situation.{Situation}
 use Rattle.listing.specs.declared.Listing.{Listing}
 use Rattle.listing.specs.declared.Listing.the-variants.{Full, Items}
-use Rattle.listing.specs.Places.{least, keptPlaces}
 use Rattle.listing.specs.Listed.{Scratch, ListingAsks, overfull, ListIs, ListingIs, isFull, areItems}
 use Rattle.reading_list.specs.declared.ReadingList.{ReadingList}
 use Rattle.reading_list.specs.declared.ReadingList.the-variants.{Refused}
 use Rattle.reading_list.specs.Outputs.{Outputs, placesIn}
-use Rattle.reading_list.specs.Right.{ReadingsRight}
+use Rattle.reading_list.specs.Right.{readingsRefused, ReadingsRight}
 use Rattle.reading_list.specs.Lines.{view, ListAsks, ListWritten, noRoom, areWritten}
 use Rattle.reading_list.specs.Groups.{link-is, even-is, item-is}
-use Rattle.reading_list.specs.Answers.{answer-is, readings-back, traces-back, left-behind}
-
-least-low : (a c : ℕ) → least a c ≤ c
-least-low a c = case (lt-or-le c a) (λ l. rw (lt-ltb c a l) (omega arith)) (λ l. rw (le-ltb c a l) l)
-
-pub kept-few : (h l s k o x : ℕ) → keptPlaces h l s k o x ≤ 0x7fff_fff0
-kept-few h l s k o x =
-    let a = least-low (least (least (least h (l / 4)) (least (s / 2) k)) o) (least x 0x7fff_fff0) in
-    let b = least-low x 0x7fff_fff0 in
-    omega arith
+use Rattle.reading_list.specs.Answers.{answer-is, readings-are-listed}
 
 -- what has two places for each record has one
 pub count-places : {n a b : ℕ} → n * 2 ≤ a → b ≡ a → n ≤ b
@@ -47,7 +36,7 @@ count-places l e = omega arith
 module _ {tk : List ℕ} {sm fs : List Float} {rs : List ℕ} {ls : List ℤ} {gs : List Float} {n b used : ℕ} {keeps : Bool} {margin : Float} {decoded : ℕ} {use-final : Bool} {listed max entries kept : ℕ} {o : Outputs} where
   pub too-many : (ltb 64 listed || ltb 64 max) ≡ true → ReadingsRight tk sm fs rs ls gs n b used keeps margin decoded use-final listed max entries kept o o (Refused 6)
   unfolding readReadings
-  too-many e = record { answer = λ S q l h. rw e; kept-is = refl }
+  too-many e = record { answer = λ S q l h. readingsRefused 6 (rw e) refl }
 
 pub many-listed : (listed max : ℕ) → 64 < listed → (ltb 64 listed || ltb 64 max) ≡ true
 many-listed listed max l = ap (λ (x : Bool). x || ltb 64 max) (lt-ltb 64 listed l)
@@ -93,12 +82,12 @@ module _ {tk : List ℕ} {sm fs : List Float} {rs : List ℕ} {ls : List ℤ} {g
               let r = readings (S .g) (S .st) use-final listed in
               let full = ap₂ (λ (a c : Option ℕ). over (r .belows) a || over (r .kepts) c) (h .below) (h .kept-are) ∙ full-of is e S use-final (counts-are counted S) in
               let small = not-many listed max m t in
-              sym
+              readingsRefused 15
               (λ i. unless
               (firstOf
               (refuse 6 (small i) ∷ refuse 15 (full i) ∷ refuse 11 (short (placesIn o) (map (λ (g : Group). g .words) (r .groups)) (traceGroups (S .st) max (r .groups)) (length (r .groups))) ∷ []))
-              (readingsAnswer (map readingOf (r .groups)) (traceGroups (S .st) max (r .groups))));
-          kept-is = refl;
+              (readingsAnswer (map readingOf (r .groups)) (traceGroups (S .st) max (r .groups))))
+              refl;
         }
 
     module _ {k : ℕ} (items : ItemsAre tk sm fs rs ls gs n b used keeps margin counts listed entries kept hs ns xs khs kns kxs list k) where
@@ -106,7 +95,7 @@ module _ {tk : List ℕ} {sm fs : List Float} {rs : List ℕ} {ls : List ℤ} {g
       list-of S = items .is S use-final (counts-are counted S) .1
 
       -- every item can be read
-      pub list-asks : {z : Scratch} → ListingAsks tk sm fs rs ls gs n b used keeps margin z → kept ≤ 0x7fff_fff0 → {route : List ℕ} → length route ≡ z .route → (decoded : ℕ) → ListAsks (view tk sm fs rs ls ns khs kns kxs b used decoded counts) list k route
+      pub list-asks : {z : Scratch} → ListingAsks tk sm fs rs ls gs n b used keeps margin kept z → kept ≤ 0x7fff_fff0 → {route : List ℕ} → length route ≡ z .route → (decoded : ℕ) → ListAsks (view tk sm fs rs ls ns khs kns kxs b used decoded counts) list k route
       list-asks asks m e decoded =
           let st = asks .stores in
           let S = st .situation in
@@ -138,17 +127,11 @@ module _ {tk : List ℕ} {sm fs : List Float} {rs : List ℕ} {ls : List ℤ} {g
           }
 
       -- the list, or slices that are too short for it
-      pub read-right : {z : Scratch} → ListingAsks tk sm fs rs ls gs n b used keeps margin z → {max decoded : ℕ} → listed ≤ 64 → max ≤ 64 → {o o' : Outputs} {r : ReadingList} → ListWritten (view tk sm fs rs ls ns khs kns kxs b used decoded counts) max list k o o' r
+      pub read-right : {z : Scratch} → ListingAsks tk sm fs rs ls gs n b used keeps margin kept z → {max decoded : ℕ} → listed ≤ 64 → max ≤ 64 → {o o' : Outputs} {r : ReadingList} → ListWritten (view tk sm fs rs ls ns khs kns kxs b used decoded counts) max list k o o' r
           → ReadingsRight tk sm fs rs ls gs n b used keeps margin decoded use-final listed max entries kept o o' r
       read-right asks {max} {decoded} m t {o} {o'} (noRoom e q) =
-          record {
-            answer = λ S d l h. sym (answer-is S (list-of S) (items .long) decoded max d l h o (not-many listed max m t) (items .is S use-final (counts-are counted S) .0) e);
-            kept-is = q;
-          }
+          record { answer = λ S d l h. readingsRefused 11 (answer-is S (list-of S) (items .long) decoded max d l h o (not-many listed max m t) (items .is S use-final (counts-are counted S) .0) e) q }
       read-right asks {max} {decoded} m t {o} {o'} (areWritten e f) =
           record {
-            answer = λ S d l h.
-                ap₂ readingsAnswer (readings-back S (list-of S) (items .long) decoded max f) (traces-back S (list-of S) (items .long) decoded max f)
-                ∙ sym (answer-is S (list-of S) (items .long) decoded max d l h o (not-many listed max m t) (items .is S use-final (counts-are counted S) .0) e);
-            kept-is = let S = asks .stores .situation in left-behind S (list-of S) (items .long) decoded max f;
+            answer = λ S d l h. readings-are-listed S (list-of S) (items .long) decoded max f (answer-is S (list-of S) (items .long) decoded max d l h o (not-many listed max m t) (items .is S use-final (counts-are counted S) .0) e);
           }

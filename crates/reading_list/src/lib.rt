@@ -1,6 +1,7 @@
 // The reading list: own groups and kept readings in lent slices, the first of them traced.
+ghost use mathlib.Core.Logic.{_⊎_};
 ghost use mathlib.Core.Path.{_≡_};
-ghost use Prim.Native.Nat.{_+_, _-_, _*_, _≤_};
+ghost use Prim.Native.Nat.{_+_, _*_, _≤_, _<_};
 ghost use lib.ListN.{length};
 ghost use lib.Seq.{sets};
 ghost use Rattle.summaries.specs.Summed.{Skips};
@@ -9,7 +10,9 @@ ghost use Rattle.traceback.specs.Trail.{noTrail};
 ghost use Rattle.traceback.specs.Chain.{Walkable, trailFrom};
 ghost use Rattle.listing.specs.Places.{entryPlaces, keptPlaces};
 ghost use Rattle.listing.specs.Listed.{scratch, ListingAsks};
+ghost use Rattle.stores.specs.Lent.{Used};
 ghost use Rattle.reading_list.specs.Outputs.{outputs};
+ghost use Rattle.reading_list.specs.Scratch.{scratch as worked, ScratchLeft};
 ghost use Rattle.reading_list.specs.Right.{ReadingsRight};
 ghost use Rattle.reading_list.specs.Items.{ownReading, keptReading, itemReading, ItemAsks, trailOf, PathAsks};
 ghost use Rattle.reading_list.specs.Lines.{view, lineOf, linesIn, ListAsks, SizeFor, GrowAsks, grownBy, TotalsAre, tooShort, BehindAsks, WrittenBehind, fiveOf, fourOf, LineAsks, LinePut, WriteAsks, Filled, ListWritten};
@@ -530,7 +533,7 @@ fn write_list(
         numbers.len() / 5,
         costs.len() / 4,
     ) {
-        return ReadingList::Refused(11);
+        return ReadingList::Refused(refusals::TOO_SHORT);
     }
     write_all(
         tokens,
@@ -600,14 +603,14 @@ pub fn readings(
     numbers: &mut [u64],
     costs: &mut [f32],
 ) -> ReadingList
-    requires { ⌜ (ListingAsks (now tokens) (now sums) (now finals) (now records) (now labels) (now gaps) states side used keeps margin (scratch (length (now keys)) (length (now places)) (length (now own)) (length (now heads)) (length (now list)) (length (now lists)) (length (now route)))) × (used * 2 ≤ length (now «history_keys»)) × (used * 2 ≤ length (now «history_skips»)) ⌝ }
-    ensures { λ r. ⌜ ReadingsRight (now (tokens .entry)) (now (sums .entry)) (now (finals .entry)) (now (records .entry)) (now (labels .entry)) (now (gaps .entry)) states side used keeps margin n «use_final» listed max (entryPlaces (length (now («entry_hashes» .entry))) (length (now («entry_nexts» .entry))) (length (now («entry_sums» .entry)))) (keptPlaces (length (now («kept_hashes» .entry))) (length (now («kept_links» .entry))) (length (now («kept_sums» .entry))) (length (now (keys .entry))) (length (now (order .entry))) (length (now (list .entry)) - states)) (outputs (now (words .entry)) (now (frames .entry)) (now (segments .entry)) (now (numbers .entry)) (now (costs .entry))) (outputs (now (words .exit)) (now (frames .exit)) (now (segments .exit)) (now (numbers .exit)) (now (costs .exit))) r ⌝ }
+    requires { ⌜ (ListingAsks (now tokens) (now sums) (now finals) (now records) (now labels) (now gaps) states side used keeps margin (keptPlaces (length (now «kept_hashes»)) (length (now «kept_links»)) (length (now «kept_sums»))) (scratch (length (now keys)) (length (now places)) (length (now own)) (length (now heads)) (length (now list)) (length (now lists)) (length (now route)) (length (now order)))) × (used * 2 ≤ length (now «history_keys»)) × (used * 2 ≤ length (now «history_skips»)) ⌝ }
+    ensures { λ r. ⌜ (ReadingsRight (now (tokens .entry)) (now (sums .entry)) (now (finals .entry)) (now (records .entry)) (now (labels .entry)) (now (gaps .entry)) states side used keeps margin n «use_final» listed max (entryPlaces (length (now («entry_hashes» .entry))) (length (now («entry_nexts» .entry))) (length (now («entry_sums» .entry)))) (keptPlaces (length (now («kept_hashes» .entry))) (length (now («kept_links» .entry))) (length (now («kept_sums» .entry)))) (outputs (now (words .entry)) (now (frames .entry)) (now (segments .entry)) (now (numbers .entry)) (now (costs .entry))) (outputs (now (words .exit)) (now (frames .exit)) (now (segments .exit)) (now (numbers .exit)) (now (costs .exit))) r) × (Used ScratchLeft ((64 < listed) ⊎ (64 < max)) (worked (now (keys .entry)) (now (places .entry)) (now (own .entry)) (now (heads .entry)) (now (list .entry)) (now (lists .entry)) (now (route .entry)) (now («history_keys» .entry)) (now («history_skips» .entry)) (now («entry_hashes» .entry)) (now («entry_nexts» .entry)) (now («entry_sums» .entry)) (now («kept_hashes» .entry)) (now («kept_links» .entry)) (now («kept_sums» .entry)) (now (order .entry))) (worked (now (keys .exit)) (now (places .exit)) (now (own .exit)) (now (heads .exit)) (now (list .exit)) (now (lists .exit)) (now (route .exit)) (now («history_keys» .exit)) (now («history_skips» .exit)) (now («entry_hashes» .exit)) (now («entry_nexts» .exit)) (now («entry_sums» .exit)) (now («kept_hashes» .exit)) (now («kept_links» .exit)) (now («kept_sums» .exit)) (now (order .exit)))) ⌝ }
 {
-    if 64 < listed {
-        return ReadingList::Refused(6);
+    if refusals::MAX_LISTED < listed {
+        return ReadingList::Refused(refusals::BAD_SETTING);
     }
-    if 64 < max {
-        return ReadingList::Refused(6);
+    if refusals::MAX_LISTED < max {
+        return ReadingList::Refused(refusals::BAD_SETTING);
     }
     let counts = traceback::finals_count(tokens, finals, states, side, use_final);
     summaries::fill(records, labels, used, history_keys, history_skips);
@@ -642,7 +645,7 @@ pub fn readings(
         kept_sums,
         order,
     ) {
-        Listing::Full => ReadingList::Refused(15),
+        Listing::Full => ReadingList::Refused(refusals::LISTS_FULL),
         Listing::Items(k) => {
             // The keys are not needed any more.
             routes::fill_counts(records, labels, used, history_keys);

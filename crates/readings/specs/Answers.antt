@@ -1,13 +1,13 @@
 -- What is written is the definition's answer. Assumes nothing.
 use mathlib.Core.Path.{_≡_, refl, sym, _∙_, ap, ap₂, subst}
-use Prim.Native.Nat.{ℕ, suc, _+_, _*_, _/_, _≤_, _<_}
+use Prim.Native.Nat.{ℕ, suc, _+_, _/_, _≤_, _<_}
 use native.Mathlib.Omega.{arith}
 use native.Mathlib.Nat.{div-add-mod', zero-add}
 use mathlib.Core.Bool.{Bool, true, false, _||_}
 use mathlib.Core.List.{List, [], _∷_, _++_, map}
 use lib.IntN.{ℤ}
 use lib.Dec.{ltb}
-use lib.ListN.{length, getD, take, drop, length-append, length-map}
+use lib.ListN.{length, getD, take, drop, length-append}
 use lib.Seq.{sets, sets-eq, drop-at, length-take-le, getD-take}
 use lib.Ieee.{Float}
 use borrow.Author.Tests.{ltb-false, lt-ltb, le-ltb, ne-eqb}
@@ -25,6 +25,7 @@ use Rattle.records.specs.History.{History}
 use Rattle.records.specs.Layout.{store}
 use Rattle.records.specs.Stands.{Stands}
 use Rattle.joins.specs.Walk.{Chains}
+use Rattle.stores.specs.Lent.{Used}
 use Rattle.stores.specs.Shown.{Is}
 use Rattle.stores.specs.Rep.{lent, Finished}
 use Rattle.stores.specs.Tables.{active-at}
@@ -40,10 +41,11 @@ use Rattle.traceback.specs.Best.{walkable-of}
 use Rattle.ranking.specs.Ranked.{RankAsks, RankedIs}
 use Rattle.groups.specs.Firsts.{linkAt, dropped, StatesAsk}
 use Rattle.readings.specs.declared.Listed.the-variants.{Refused, Paths}
-use Rattle.readings.specs.Paths.{costIn, trailAt, toldsOf, wordsIn, framesIn, phonesIn, lesserOf, sizes, tooShort, FillAsks, TotalIs, Outputs, placesIn, pathsIn, front, allWords, allFrames, allSegments, endsFrom, costsOf, Filled, WriteAsks}
-use Rattle.readings.specs.Fronts.{flat-length, words-long, frames-long, segments-long, ends-long, Plain, Plains, filled-back}
+use Rattle.readings.specs.Paths.{costIn, trailAt, toldsOf, lesserOf, sizes, tooShort, FillAsks, TotalIs, Outputs, placesIn, Plain, Plains, WriteAsks}
+use Rattle.readings.specs.Fronts.{flat-length}
+use Rattle.readings.specs.Back.{plains-even}
 use Rattle.readings.specs.Writing.{many-are}
-use Rattle.readings.specs.Right.{AlternativesAsk, StatesListed, BehindAll, AlternativesRight}
+use Rattle.readings.specs.Right.{AlternativesAsk, StatesListed, Filled, ListedIs, listedRefused, listedPaths, AlternativesRight, Scratch, ScratchLeft}
 use Rattle.readings.specs.Grouping.{link-shown}
 
 -- ---- a path that is read as it was written
@@ -85,10 +87,6 @@ module _ (rs : List ℕ) (ls : List ℤ) (gs : List Float) (route : List ℕ) (u
 plains-of : (f : ℕ → Told) (xs : List ℕ) → ((i : ℕ) → i < length xs → Plain (f (getD xs i 0))) → Plains (map f xs)
 plains-of f [] p = tt
 plains-of f (x ∷ xs) p = (p 0 (omega arith), plains-of f xs (λ i l. p (suc i) (omega arith)))
-
-plains-even : (ts : List Told) → Plains ts → framesIn ts ≡ wordsIn ts
-plains-even [] p = refl
-plains-even (t ∷ ts) p = ap₂ (λ (a c : ℕ). a + c) (p .0 .as-many) (plains-even ts (p .1))
 
 -- ---- what the steps ask
 
@@ -210,31 +208,28 @@ module _ {tk : List ℕ} {sm fs : List Float} {rs : List ℕ} {ls : List ℤ} {n
         answer-by x e g q gs st u F = answer-is g q gs st u F ∙ ap₂ (λ (y z : Bool). unless (firstOf (refuse 6 y ∷ refuse 11 z ∷ [])) (pathsAnswer told-all)) (le-ltb 64 max few) e
 
         pub listed-short : tooShort total k (placesIn o) ≡ true → AlternativesRight tk sm fs rs ls n b used decoded use-final max o o (Refused 11)
-        listed-short e = record { answer = λ g q gs st u F. sym (answer-by true e g q gs st u F); kept = refl }
-
-        behind : {A : Type 0} (x y vs : List A) (j : ℕ) → y ≡ front x vs → length vs ≡ j → drop j y ≡ drop j x
-        behind x y vs j e h = ap (drop j) e ∙ drop-at vs (drop (length vs) x) j h ∙ ap (λ (i : ℕ). drop i x) h
+        listed-short e = record { answer = λ g q gs st u F. listedRefused 11 (answer-by true e g q gs st u F) refl }
 
         pub listed-written : {o' : Outputs} → tooShort total k (placesIn o) ≡ false → Filled told-all o o' → AlternativesRight tk sm fs rs ls n b used decoded use-final max o o' (Paths k)
         listed-written {o'} e f =
-            let back : pathsIn k o' ≡ told-all = ap (λ (j : ℕ). pathsIn j o') (sym many) ∙ filled-back f plain-all in
-            record {
-              answer = λ g q gs st u F. ap pathsAnswer back ∙ sym (answer-by false e g q gs st u F);
-              kept =
-                  subst (λ (ts : List Told). BehindAll ts o o') (sym back)
-                  (record {
-                    words = behind (o .words) (o' .words) (allWords told-all) (wordsIn told-all) (f .words) (words-long told-all);
-                    frames = behind (o .frames) (o' .frames) (allFrames told-all) (wordsIn told-all) (f .frames) (frames-long told-all ∙ plains-even told-all plain-all);
-                    segments = behind (o .segments) (o' .segments) (allSegments told-all) (phonesIn told-all * 3) (f .segments) (segments-long told-all);
-                    ends = behind (o .ends) (o' .ends) (endsFrom 0 0 told-all) (2 * length told-all) (f .ends) (ends-long 0 0 told-all);
-                    costs = behind (o .costs) (o' .costs) (costsOf told-all) (length told-all) (f .costs) (length-map told-all (λ (t : Told). t .cost));
-                  });
-            }
+            record { answer = λ g q gs st u F. subst (λ (j : ℕ). ListedIs (readAlternatives g st use-final max (placesIn o)) o o' (Paths j)) many (listedPaths told-all (answer-by false e g q gs st u F) plain-all f) }
 
 pub listed-many : {tk : List ℕ} {sm fs : List Float} {rs : List ℕ} {ls : List ℤ} {n b used decoded : ℕ} {use-final : Bool} {max : ℕ} {o : Outputs} → 64 < max → AlternativesRight tk sm fs rs ls n b used decoded use-final max o o (Refused 6)
 unfolding readAlternatives
-listed-many {max = max} {o} h = record { answer = λ g q gs st u F. rw (lt-ltb 64 max h); kept = refl }
+listed-many {max = max} {o} h = record { answer = λ g q gs st u F. listedRefused 6 (rw (lt-ltb 64 max h)) refl }
 
 -- what the test said, with the entries counted
 pub short-told : (z : Size) (k : ℕ) (o : Outputs) {e : ℕ} {r x : Bool} → r ≡ tooShort z k (sizes (length (o .words)) (length (o .frames)) (length (o .segments) / 3) e) → e ≡ lesserOf (length (o .ends) / 2) (length (o .costs)) → r ≡ x → tooShort z k (placesIn o) ≡ x
 short-told z k o p q b = ap (λ (n : ℕ). tooShort z k (sizes (length (o .words)) (length (o .frames)) (length (o .segments) / 3) n)) (sym q) ∙ sym p ∙ b
+
+-- ---- the slices that it works in
+
+pub used-self : {max : ℕ} (w : Scratch) → Used ScratchLeft (64 < max) w w
+used-self w =
+    record {
+      left = record { keys = record { same-length = refl }; places = record { same-length = refl }; order = record { same-length = refl }; history-keys = record { same-length = refl }; history-skips = record { same-length = refl } };
+      untouched = λ h. refl;
+    }
+
+pub used-late : {max : ℕ} {w w' : Scratch} → max ≤ 64 → ScratchLeft w w' → Used ScratchLeft (64 < max) w w'
+used-late few l = record { left = l; untouched = λ h. absurd (omega arith) }

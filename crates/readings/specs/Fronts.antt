@@ -6,7 +6,7 @@ use native.Mathlib.Nat.{add-zero, zero-add}
 use mathlib.Core.List.{List, [], _∷_, _++_, append-nil, append-assoc}
 use lib.IntN.{ℤ}
 use lib.ListN.{length, take, drop, set, length-append, length-drop, length-map, drop-of-length-le}
-use lib.Seq.{length-take-le, sets, sets-eq, take-at, drop-at, drop-drop, drop-append-add, take-all}
+use lib.Seq.{length-take-le, sets, sets-eq, take-at, drop-drop, drop-append-add, take-all}
 use lib.Ieee.{Float}
 use Rattle.model.specs.Reads.{Segment, Traced as Told}
 use Rattle.traceback.specs.declared.Size.{Size}
@@ -14,8 +14,9 @@ use Rattle.traceback.specs.Chain.{trailFrom, SizeIs}
 use Rattle.traceback.specs.Trail.{Trail, noTrail}
 use Rattle.traceback.specs.Write.{flat, Wrote}
 use Rattle.traceback.specs.Answers.{toldBy}
-use Rattle.traceback.specs.Right.{segmentsIn, Fits}
-use Rattle.readings.specs.Paths.{wordsIn, framesIn, phonesIn, Outputs, RoomFor, front, allWords, allFrames, allSegments, endsFrom, costsOf, Filled, sizeBy, pathsFrom, pathsIn, PutAsks, PathPut, EntryPut}
+use Rattle.traceback.specs.Right.{Fits}
+use Rattle.readings.specs.Paths.{wordsIn, framesIn, phonesIn, Outputs, RoomFor, front, allWords, allFrames, allSegments, endsFrom, costsOf, sizeBy, PutAsks, PathPut, EntryPut}
+use Rattle.readings.specs.Right.{Filled}
 
 -- ---- a slice that begins with these
 
@@ -184,42 +185,3 @@ module _ {ts : List Told} {o o' o'' : Outputs} {t : Trail} {c : Float} {i : ℕ}
             (let a = length-map ts (λ (t : Told). t .cost) in let b = room .costs in let d = length-append ts (one ∷ []) in omega arith)
             ∙ ap (front (o .costs)) (sym (costs-more one ts));
       }
-
--- ---- what is read back
-
--- as many frames as words, and segments that are read as they were written
-pub record Plain (t : Told) : Type 0 where
-  pub as-many : length (t .wordFrames) ≡ length (t .words)
-  pub back : (rest : List ℕ) → segmentsIn (length (t .phones)) (flat (t .phones) ++ rest) ≡ t .phones
-
-abbrev pub Plains : List Told → Type 0
-Plains [] = Unit {0}
-Plains (t ∷ ts) = Plain t × Plains ts
-
-more-less : (w n : ℕ) → w + n - w ≡ n
-more-less w n = omega arith
-
-pub read-back : (ts : List Told) → Plains ts → (w s : ℕ) (ws : List ℤ) (fs ss es : List ℕ) (cs : List Float)
-    → pathsFrom (length ts) w s (allWords ts ++ ws) (allFrames ts ++ fs) (allSegments ts ++ ss) (endsFrom w s ts ++ es) (costsOf ts ++ cs) ≡ ts
-read-back [] p w s ws fs ss es cs = refl
-read-back (t ∷ ts) p w s ws fs ss es cs =
-    let W = length (t .words) in
-    let S = length (t .phones) in
-    let ew = more-less w W in
-    let es' = more-less s S in
-    let aw = append-assoc (t .words) (allWords ts) ws in
-    let af = append-assoc (t .wordFrames) (allFrames ts) fs in
-    let as' = append-assoc (flat (t .phones)) (allSegments ts) ss in
-    let tw : take (w + W - w) (t .words ++ allWords ts ++ ws) ≡ t .words = ap₂ take ew aw ∙ take-at (t .words) (allWords ts ++ ws) W refl in
-    let tf : take (w + W - w) (t .wordFrames ++ allFrames ts ++ fs) ≡ t .wordFrames = ap₂ take ew af ∙ take-at (t .wordFrames) (allFrames ts ++ fs) W (p .0 .as-many) in
-    let tp : segmentsIn (s + S - s) (flat (t .phones) ++ allSegments ts ++ ss) ≡ t .phones = ap₂ segmentsIn es' as' ∙ p .0 .back (allSegments ts ++ ss) in
-    let dw : drop (w + W - w) (t .words ++ allWords ts ++ ws) ≡ allWords ts ++ ws = ap₂ drop ew aw ∙ drop-at (t .words) (allWords ts ++ ws) W refl in
-    let df : drop (w + W - w) (t .wordFrames ++ allFrames ts ++ fs) ≡ allFrames ts ++ fs = ap₂ drop ew af ∙ drop-at (t .wordFrames) (allFrames ts ++ fs) W (p .0 .as-many) in
-    let dp : drop ((s + S - s) * 3) (flat (t .phones) ++ allSegments ts ++ ss) ≡ allSegments ts ++ ss = ap₂ drop (ap (λ (k : ℕ). k * 3) es') as' ∙ drop-at (flat (t .phones)) (allSegments ts ++ ss) (S * 3) (flat-length (t .phones)) in
-    let rest = read-back ts (p .1) (w + W) (s + S) ws fs ss es cs in
-    ap₂ (λ (x : Told) (xs : List Told). x ∷ xs) (λ i. record { words = tw i; wordFrames = tf i; phones = tp i; cost = t .cost })
-    ((λ i. pathsFrom (length ts) (w + W) (s + S) (dw i) (df i) (dp i) (endsFrom (w + W) (s + S) ts ++ es) (costsOf ts ++ cs)) ∙ rest)
-
-pub filled-back : {ts : List Told} {o o' : Outputs} → Filled ts o o' → Plains ts → pathsIn (length ts) o' ≡ ts
-filled-back {ts} {o} {o'} f p =
-    (λ i. pathsFrom (length ts) 0 0 (f .words i) (f .frames i) (f .segments i) (f .ends i) (f .costs i)) ∙ read-back ts p 0 0 _ _ _ _ _

@@ -19,7 +19,7 @@ use Rattle.traceback.specs.Trail.{Trail, noTrail}
 use Rattle.traceback.specs.Chain.{Walkable, trailFrom, SizeIs}
 use Rattle.traceback.specs.Write.{flat}
 use Rattle.traceback.specs.Answers.{toldBy}
-use Rattle.traceback.specs.Right.{parts, pathIn}
+use Rattle.traceback.specs.Right.{parts, pathIn, segmentsIn}
 use Rattle.groups.specs.Firsts.{linkAt}
 
 -- ---- one state's path
@@ -137,12 +137,14 @@ endsFrom w s (t ∷ ts) = (w + length (t .words)) ∷ (s + length (t .phones)) �
 abbrev pub costsOf : List Told → List Float
 costsOf ts = map (λ (t : Told). t .cost) ts
 
-pub record Filled (ts : List Told) (o o' : Outputs) : Type 0 where
-  pub words : o' .words ≡ front (o .words) (allWords ts)
-  pub frames : o' .frames ≡ front (o .frames) (allFrames ts)
-  pub segments : o' .segments ≡ front (o .segments) (allSegments ts)
-  pub ends : o' .ends ≡ front (o .ends) (endsFrom 0 0 ts)
-  pub costs : o' .costs ≡ front (o .costs) (costsOf ts)
+-- As many frames as words, and segments that are read as they were written.
+pub record Plain (t : Told) : Type 0 where
+  pub as-many : length (t .wordFrames) ≡ length (t .words)
+  pub back : (rest : List ℕ) → segmentsIn (length (t .phones)) (flat (t .phones) ++ rest) ≡ t .phones
+
+abbrev pub Plains : List Told → Type 0
+Plains [] = Unit {0}
+Plains (t ∷ ts) = Plain t × Plains ts
 
 -- ---- one path written
 

@@ -11,7 +11,8 @@ use lib.Ieee.{Float}
 use Rattle.model.specs.Reads.{Traced as Told}
 use Rattle.traceback.specs.declared.Size.{Size}
 use Rattle.traceback.specs.Answers.{toldBy}
-use Rattle.readings.specs.Paths.{costIn, trailAt, toldsOf, wordsIn, framesIn, phonesIn, Outputs, sizeBy, RoomFor, front, allWords, allFrames, allSegments, endsFrom, costsOf, Filled, EntryAsks, EntryPut, WriteAsks}
+use Rattle.readings.specs.Paths.{costIn, trailAt, toldsOf, wordsIn, framesIn, phonesIn, Outputs, sizeBy, RoomFor, front, allWords, allFrames, allSegments, endsFrom, costsOf, EntryAsks, EntryPut, WriteAsks}
+use Rattle.readings.specs.Right.{Filled}
 use Rattle.readings.specs.Fronts.{words-sum, frames-sum, phones-sum, words-long, frames-long, segments-long, ends-long, filled-none, filled-next}
 use Rattle.readings.specs.Totals.{told-more}
 

@@ -5,8 +5,9 @@ ghost use lib.ListN.{length, take};
 ghost use Rattle.traceback.specs.Trail.{noTrail};
 ghost use Rattle.traceback.specs.Chain.{Walkable, trailFrom, SizeIs};
 ghost use Rattle.summaries.specs.Summed.{Summed};
-ghost use Rattle.readings.specs.Paths.{costIn, trailAt, toldsOf, lesserOf, sizes, tooShort, PathsAsk, FillAsks, TotalIs, PutAsks, PathPut, EntryAsks, EntryPut, WriteAsks, outputs, Filled};
-ghost use Rattle.readings.specs.Right.{StatesListed, AlternativesAsk, AlternativesRight};
+ghost use Rattle.stores.specs.Lent.{Used};
+ghost use Rattle.readings.specs.Paths.{costIn, trailAt, toldsOf, lesserOf, sizes, tooShort, PathsAsk, FillAsks, TotalIs, PutAsks, PathPut, EntryAsks, EntryPut, WriteAsks, outputs};
+ghost use Rattle.readings.specs.Right.{StatesListed, Filled, AlternativesAsk, AlternativesRight, scratch, ScratchLeft};
 use traceback::Size;
 
 // The cost of a state's token with its final weight, or with nothing where finals do not count.
@@ -291,10 +292,10 @@ pub fn alternatives(
     costs: &mut [f32],
 ) -> Listed
     requires { ⌜ (AlternativesAsk (now tokens) (now sums) (now finals) (now records) (now labels) states side used (now keys) (now places) (now order)) × (used * 2 ≤ length (now «history_keys»)) × (used * 2 ≤ length (now «history_skips»)) ⌝ }
-    ensures { λ r. ⌜ AlternativesRight (now (tokens .entry)) (now (sums .entry)) (now (finals .entry)) (now (records .entry)) (now (labels .entry)) states side used n «use_final» max (outputs (now (words .entry)) (now (frames .entry)) (now (segments .entry)) (now (ends .entry)) (now (costs .entry))) (outputs (now (words .exit)) (now (frames .exit)) (now (segments .exit)) (now (ends .exit)) (now (costs .exit))) r ⌝ }
+    ensures { λ r. ⌜ (AlternativesRight (now (tokens .entry)) (now (sums .entry)) (now (finals .entry)) (now (records .entry)) (now (labels .entry)) states side used n «use_final» max (outputs (now (words .entry)) (now (frames .entry)) (now (segments .entry)) (now (ends .entry)) (now (costs .entry))) (outputs (now (words .exit)) (now (frames .exit)) (now (segments .exit)) (now (ends .exit)) (now (costs .exit))) r) × (Used ScratchLeft (64 < max) (scratch (now (keys .entry)) (now (places .entry)) (now (order .entry)) (now («history_keys» .entry)) (now («history_skips» .entry))) (scratch (now (keys .exit)) (now (places .exit)) (now (order .exit)) (now («history_keys» .exit)) (now («history_skips» .exit)))) ⌝ }
 {
-    if 64 < max {
-        return Listed::Refused(6);
+    if refusals::MAX_LISTED < max {
+        return Listed::Refused(refusals::BAD_SETTING);
     }
     let counts = traceback::finals_count(tokens, finals, states, side, use_final);
     summaries::fill(records, labels, used, history_keys, history_skips);
@@ -324,7 +325,7 @@ pub fn alternatives(
         segments.len() / 3,
         smaller(ends.len() / 2, costs.len()),
     ) {
-        return Listed::Refused(11);
+        return Listed::Refused(refusals::TOO_SHORT);
     }
     write_all(
         tokens,

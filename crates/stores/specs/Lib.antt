@@ -5,3 +5,4 @@ pub mod Tables
 pub mod Rep
 pub mod Roots
 pub mod Moved
+pub mod Lent

@@ -1,5 +1,5 @@
--- The least of eight.
-use mathlib.Core.Path.{_∙_, refl, ap₂}
+-- The least of four.
+use mathlib.Core.Path.{_∙_, ap₂}
 use Rattle.listing.specs.Places.{least}
 use borrow.Author.Needs.{needs}
 use Rattle.listing.proofs.kept_places.Statement.{statement}
@@ -14,26 +14,8 @@ smaller-requires-2 c κs = search needs
 smaller-requires-3 : tie.Need-smaller-requires-3
 smaller-requires-3 c κs = search needs
 
-smaller-requires-4 : tie.Need-smaller-requires-4
-smaller-requires-4 c κs = search needs
-
-smaller-requires-5 : tie.Need-smaller-requires-5
-smaller-requires-5 c κs = search needs
-
-smaller-requires-6 : tie.Need-smaller-requires-6
-smaller-requires-6 c κs = search needs
-
 returns : tie.Need-returns
-returns c = c .smaller6 .ensures ∙ ap₂ least (c .before .before .smaller4 .ensures ∙ ap₂ least (c .before .before .before .smaller3 .ensures ∙ ap₂ least (c .before .before .before .before .before .smaller .ensures) (c .before .before .before .before .smaller2 .ensures)) refl) (c .before .smaller5 .ensures)
+returns c = c .smaller3 .ensures ∙ ap₂ least (c .before .before .smaller .ensures) (c .before .smaller2 .ensures)
 
 pub kept-places-spec : {M : Type 1} → statement M
-kept-places-spec =
-    tie.close
-    (tie.spec
-    smaller-requires
-    smaller-requires-2
-    smaller-requires-3
-    smaller-requires-4
-    smaller-requires-5
-    smaller-requires-6
-    returns)
+kept-places-spec = tie.close (tie.spec smaller-requires smaller-requires-2 smaller-requires-3 returns)
