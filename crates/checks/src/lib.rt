@@ -3,12 +3,11 @@ ghost use mathlib.Core.Path.{_≡_};
 ghost use mathlib.Core.Bool.{not, _||_};
 ghost use Prim.Native.Nat.{_/_};
 ghost use mathlib.Core.List.{[], _∷_};
-ghost use lib.Dec.{ltb};
 ghost use Rattle.lists.specs.Lists.{all};
 ghost use Rattle.real32.specs.Small.{tame};
 ghost use Rattle.model.specs.Passes.{fair, fairMargin};
 ghost use Rattle.listing.specs.Places.{least};
-ghost use Rattle.checks.specs.Fit.{leastOf, configWrong, scratchWrong, perStateWrong};
+ghost use Rattle.checks.specs.Fit.{leastOf, recordPlaces, configWrong, storesWrong};
 ghost use Rattle.checks.specs.Frame.{frameNumber};
 ghost use Rattle.checks.specs.Margin.{asked};
 use cutoff::Config;
@@ -21,7 +20,7 @@ fn is_fair(x: f32) -> bool
 }
 
 // 6, of the settings.
-pub fn config_wrong(config: Config) -> bool
+fn config_wrong(config: Config) -> bool
     ensures { λ r. ⌜ r ≡ configWrong config ⌝ }
 {
     if !is_fair(config.beam) {
@@ -39,83 +38,85 @@ fn smaller(a: usize, b: usize) -> usize
     if b < a { b } else { a }
 }
 
-// The places for records, of slices of these lengths: eight numbers in one, two in each of two others; and of those that the reads work in, two, one, two and two.
-pub fn capacity(
-    records: usize,
-    labels: usize,
-    gaps: usize,
-    lists: usize,
-    route: usize,
-    history_keys: usize,
-    history_skips: usize,
-) -> usize
-    ensures { λ r. ⌜ r ≡ leastOf (records / 8) (labels / 2 ∷ gaps / 2 ∷ lists / 2 ∷ route ∷ «history_keys» / 2 ∷ «history_skips» / 2 ∷ []) ⌝ }
-{
-    let histories = smaller(history_keys / 2, history_skips / 2);
-    let listing = smaller(lists / 2, smaller(route, histories));
-    let kept = smaller(labels / 2, smaller(gaps / 2, listing));
-    smaller(records / 8, kept)
+// The lengths of the slices that are lent to a fitting.
+pub struct Lengths {
+    // kept per state
+    pub tokens: usize,
+    pub sums: usize,
+    pub eps: usize,
+    pub scratch: usize,
+    pub keys: usize,
+    pub places: usize,
+    pub own: usize,
+    pub heads: usize,
+    pub list: usize,
+    // the record store
+    pub records: usize,
+    pub labels: usize,
+    pub gaps: usize,
+    // kept per record
+    pub lists: usize,
+    pub route: usize,
+    pub history_keys: usize,
+    pub history_skips: usize,
+    // the store for kept readings
+    pub kept_hashes: usize,
+    pub kept_links: usize,
+    pub kept_sums: usize,
+    // kept per kept reading, as `keys` is, and `list` behind a place for every state
+    pub order: usize,
 }
 
-// Whether a slice that a call works in has fewer places than states.
-fn scratch_wrong(
-    scratch: usize,
-    keys: usize,
-    places: usize,
-    own: usize,
-    heads: usize,
-    list: usize,
-    states: usize,
-) -> bool
-    ensures { λ r. ⌜ r ≡ scratchWrong states (scratch ∷ keys ∷ places ∷ own ∷ heads ∷ list ∷ []) ⌝ }
+// The places of the record store.
+pub fn record_places(l: Lengths) -> usize
+    ensures { λ r. ⌜ r ≡ recordPlaces l ⌝ }
 {
-    if scratch < states {
-        return true;
-    }
-    if keys < states {
-        return true;
-    }
-    if places < states {
-        return true;
-    }
-    if own < states {
-        return true;
-    }
-    if heads < states {
-        return true;
-    }
-    list < states
+    smaller(l.records / 8, smaller(l.labels / 2, l.gaps / 2))
 }
 
-// 6, of the stores: each that is kept per state has a place for every state, and no more than 1,048,576 records.
-pub fn stores_wrong(
-    tokens: usize,
-    sums: usize,
-    eps: usize,
-    scratch: usize,
-    keys: usize,
-    places: usize,
-    own: usize,
-    heads: usize,
-    list: usize,
-    states: usize,
-    cap: usize,
-) -> bool
-    ensures { λ r. ⌜ r ≡ (perStateWrong states tokens sums eps (scratch ∷ keys ∷ places ∷ own ∷ heads ∷ list ∷ []) || ltb 1_048_576 cap) ⌝ }
+// The fewest places of a slice kept per state.
+fn fewest_per_state(l: Lengths) -> usize
+    ensures { λ r. ⌜ r ≡ leastOf (l .tokens / 8) (l .sums / 4 ∷ l .eps ∷ l .scratch ∷ l .keys ∷ l .places ∷ l .own ∷ l .heads ∷ l .list ∷ []) ⌝ }
 {
-    if tokens / 8 < states {
+    let listed = smaller(l.own, smaller(l.heads, l.list));
+    let worked = smaller(l.scratch, smaller(l.keys, smaller(l.places, listed)));
+    smaller(l.tokens / 8, smaller(l.sums / 4, smaller(l.eps, worked)))
+}
+
+// The fewest places of a slice kept per record.
+fn fewest_per_record(l: Lengths) -> usize
+    ensures { λ r. ⌜ r ≡ leastOf (l .lists / 2) (l .route ∷ l .«history_keys» / 2 ∷ l .«history_skips» / 2 ∷ []) ⌝ }
+{
+    let histories = smaller(l.history_keys / 2, l.history_skips / 2);
+    smaller(l.lists / 2, smaller(l.route, histories))
+}
+
+// 6, of the stores: a slice kept per state, per record or per kept reading with fewer places than these, or too many records.
+fn stores_wrong(l: Lengths, states: usize) -> bool
+    ensures { λ r. ⌜ r ≡ storesWrong states l ⌝ }
+{
+    if fewest_per_state(l) < states {
         return true;
     }
-    if sums / 4 < states {
+    let records = record_places(l);
+    if refusals::MAX_RECORDS < records {
         return true;
     }
-    if eps < states {
+    if fewest_per_record(l) < records {
         return true;
     }
-    if scratch_wrong(scratch, keys, places, own, heads, list, states) {
+    let kept = listing::kept_places(l.kept_hashes, l.kept_links, l.kept_sums);
+    smaller(l.keys, smaller(l.order, l.list - states)) < kept
+}
+
+// 6, of a fitting.
+pub fn fit_wrong(config: Config, l: Lengths, states: usize) -> bool
+    ensures { λ r. ⌜ r ≡ (configWrong config || storesWrong states l) ⌝ }
+{
+    if config_wrong(config) {
         return true;
     }
-    1_048_576 < cap
+    stores_wrong(l, states)
 }
 
 // 9: a log-likelihood that is not finite, or of magnitude 2^100 or more.
@@ -134,14 +135,14 @@ fn all_tame(loglikes: &[f32]) -> bool
 pub fn check_frame(loglikes: &[f32], frames: u32, pdfs: u32) -> u32
     ensures { λ r. ⌜ r ≡ frameNumber (now (loglikes .entry)) frames pdfs ⌝ }
 {
-    if 65_536 <= frames {
-        return 10;
+    if refusals::MAX_FRAMES <= frames {
+        return refusals::TOO_MANY_FRAMES;
     }
     if loglikes.len() != pdfs as usize {
-        return 8;
+        return refusals::BAD_FRAME_LENGTH;
     }
     if !all_tame(loglikes) {
-        return 9;
+        return refusals::BAD_LOGLIKE;
     }
     0
 }
