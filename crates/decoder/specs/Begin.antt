@@ -28,7 +28,7 @@ use Rattle.records.specs.Layout.{Store}
 use Rattle.stores.specs.Shown.{TokenIs, Shown, is-none}
 use Rattle.stores.specs.Tables.{shown-put, shown-aside, shown-cleared, shown-uncleared}
 use Rattle.stores.specs.Rep.{Lent, lent, Lens, storeOf, room-as}
-use Rattle.fst.specs.declared.Place.the-variants.{Nowhere}
+use Rattle.refusals.specs.declared.Place.the-variants.{Nowhere}
 use Rattle.arrivals.specs.Settled.{marginIn}
 use Rattle.arrivals.specs.Stood.{Stood}
 use Rattle.arcs.specs.declared.Work.{Work}
@@ -41,7 +41,7 @@ use Rattle.nonemitting.specs.Pass.{NonemittingGiven, NonemittingIs}
 use Rattle.decoder.specs.declared.Decoder.{Decoder}
 use Rattle.decoder.specs.declared.Called.{Called}
 use Rattle.decoder.specs.declared.Called.the-variants.{Done, Refused}
-use Rattle.decoder.specs.Represents.{settingOf, Fixed, Represents, CalledBy, calledDone, calledRefused}
+use Rattle.decoder.specs.Represents.{settingOf, Fixed, Idle, Represents, CalledBy, calledDone, calledRefused}
 
 -- ---- the values
 
@@ -68,6 +68,7 @@ pub record BeginGiven (g : Graph) (c : Settings) (l : Limits) (T : Tables) (m : 
   pub fixed : Fixed g c l T m eps places d
   pub fair : fairMargin (st .margin) ≡ true
   pub margin-is : st .margin ≡ marginOf (marginIn (settingOf d))
+  pub idle : Idle d
 
 pub record BeginAsks (T : Tables) (m : Lent) (eps : List ℕ) (places : ℕ) (d : Decoder) : Type 0 where
   pub g : Graph
@@ -135,6 +136,7 @@ fixed-moved {m = m} f m' L side frames seq used low =
       floats = f .floats;
       of = f .of;
       states-are = f .states-are;
+      arcs-are = f .arcs-are;
       start-is = f .start-is;
       pdfs-are = f .pdfs-are;
       config-is = f .config-is;
@@ -182,6 +184,7 @@ module _ {g : Graph} {c : Settings} {l : Limits} {T : Tables} {m : Lent} {eps : 
         fixed = fixed-as m' L (d .side) 0 0 0 (G .fixed .side);
         standing = standing-none g (st .margin) (G .fair);
         margin-is = G .margin-is;
+        idle = G .idle;
         frames-are = refl;
         seq-is = refl;
         fits = omega arith;
@@ -306,6 +309,7 @@ module _ {g : Graph} {c : Settings} {l : Limits} {T : Tables} {m : Lent} {eps : 
                 fixed = fixed-as m' L (1 - d .side) 0 (x .seq) (x .used) (other-side (d .side) (G .fixed .side));
                 standing = subst (Ok (Standing g [])) begun (start-standing g (G .fixed .good) (G .fixed .floats) c l st (G .fair));
                 margin-is = G .margin-is;
+                idle = G .idle;
                 frames-are = refl;
                 seq-is = A .stood .seq;
                 fits = A .stood .fits;

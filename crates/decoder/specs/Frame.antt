@@ -19,7 +19,7 @@ use Rattle.model.specs.Path.{Path, emptyPath, arcOn, branchOn, isLink, word, To
 use Rattle.model.specs.Cutoff.{Config as Settings}
 use Rattle.model.specs.Arrive.{Here, Work as ModelWork}
 use Rattle.model.specs.Passes.{State, done, emittingPass, nonemittingPass, checkFrame, frame}
-use Rattle.model.specs.Calls.{startCall, frameCall, Answer, refusalAnswer, said, call, Said}
+use Rattle.model.specs.Calls.{frameCall, Answer, refusalAnswer, said, call, Said}
 use Rattle.model.specs.Accepted.{Ok, weaken}
 use Rattle.copy_laws.specs.Walks.{Heard}
 use Rattle.copy_laws.specs.Tables.{At as TokenAt}
@@ -35,7 +35,7 @@ use Rattle.records.specs.History.{History, noHistory, tag, historyOf, linkOn}
 use Rattle.records.specs.Stands.{Stands}
 use Rattle.stores.specs.Shown.{Shows, showsNone, showsToken, Shown}
 use Rattle.stores.specs.Rep.{Lent, Lens, storeOf}
-use Rattle.fst.specs.declared.Place.the-variants.{AtFrames}
+use Rattle.refusals.specs.declared.Place.the-variants.{AtFrames}
 use Rattle.arrivals.specs.declared.Setting.{Setting}
 use Rattle.arcs.specs.declared.Work.{Work}
 use Rattle.arcs.specs.declared.Passed.{Passed}
@@ -207,14 +207,7 @@ pub record BackIs (tk : List ℕ) (sm : List Float) (d r : Decoder) : Type 0 whe
   pub newest : NewestIs tk sm (1 - d .side) (d .graph .states) used
 
 pub begin-from : {g : Graph} {c : Settings} {l : Limits} {T : Tables} {m : Lent} {eps : List ℕ} {places : ℕ} {d : Decoder} {fs : List Heard} {st : State} → Represents g c l T m eps places d fs st → BeginGiven g c l T m eps places d st
-begin-from R = record { fixed = R .fixed; fair = R .standing .margin; margin-is = R .margin-is }
-
-abbrev pub StartIs : (T : Tables) (m m' : Lent) (eps : List ℕ) (places : ℕ) → Decoder → Called → Type 0
-StartIs T m m' eps places d r = (g : Graph) (c : Settings) (l : Limits) (fs : List Heard) (st : State) → Represents g c l T m eps places d fs st → CalledBy g c l T m' eps places (call g c l startCall st) r
-
-abbrev pub FrameIs : (T : Tables) (m m' : Lent) (eps : List ℕ) (places : ℕ) → (loglikes : List Float) → Decoder → Called → Type 0
-FrameIs T m m' eps places ls d r =
-    (g : Graph) (c : Settings) (l : Limits) (fs : List Heard) (st : State) → Represents g c l T m eps places d fs st → CalledBy g c l T m' eps places (call g c l (frameCall ls) st) r
+begin-from R = record { fixed = R .fixed; fair = R .standing .margin; margin-is = R .margin-is; idle = R .idle }
 
 bind-twice : {A B C : Type 0} (m : Outcome A) (f : A → Outcome B) (k : B → Outcome C) → (m >>= λ a. f a >>= k) ≡ ((m >>= f) >>= k)
 bind-twice (ok a) f k = refl
@@ -383,6 +376,7 @@ module _ {g : Graph} {c : Settings} {l : Limits} {T : Tables} {m : Lent} {eps : 
                   fixed = fixed-moved (R .fixed) m' L (1 - d .side) (d .frames + 1) (x .seq) (x .used) (other-side (d .side) (R .fixed .side));
                   standing = subst (Ok (Standing g (fs ++ (hearing ls (st .table) ∷ [])))) made (frame-standing g (R .fixed .good) (R .fixed .floats) c l st fs ls (R .standing));
                   margin-is = R .margin-is;
+                  idle = R .idle;
                   frames-are = sym next;
                   seq-is = A .stood .seq;
                   fits = A .stood .fits;
@@ -407,6 +401,7 @@ module _ {g : Graph} {c : Settings} {l : Limits} {T : Tables} {m : Lent} {eps : 
                   fixed = fixed-moved (R .fixed) m' L (d .side) (d .frames) (d .seq) (B .used) (R .fixed .side);
                   standing = R .standing;
                   margin-is = R .margin-is;
+                  idle = R .idle;
                   frames-are = R .frames-are;
                   seq-is = R .seq-is;
                   fits = let z = old .fits in omega arith;

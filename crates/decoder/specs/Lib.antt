@@ -1,10 +1,14 @@
 pub mod Represents
+pub mod Contracts
+pub mod Behaves
+pub mod Demand3
 pub mod Begin
 pub mod Frame
+pub mod Parts
 pub mod Reads
 pub mod Listed
 pub mod Fit
 pub mod Capacity
 pub mod Held
-pub mod Behaves
+pub mod Alike
 pub mod Says

@@ -8,8 +8,7 @@ use lib.IntN.{ℤ}
 use lib.ListN.{length}
 use lib.Dec.{T}
 use lib.Ieee.{Float}
-use Rattle.lists.specs.Lists.{_∈_}
-use Rattle.model.specs.Basics.{nowhere, Outcome, ok, refused}
+use Rattle.model.specs.Basics.{0f, nowhere, Outcome, ok, refused}
 use Rattle.model.specs.Graph.{Graph, states}
 use Rattle.model.specs.Path.{Limits}
 use Rattle.model.specs.Cutoff.{Config as Settings}
@@ -19,20 +18,20 @@ use Rattle.joins.specs.declared.Margin.the-variants.{Off, Within}
 use Rattle.joins.specs.Model.{marginOf}
 use Rattle.copy_laws.specs.Walks.{Heard}
 use Rattle.stores.specs.Rep.{Lent, lent, Finished}
-use Rattle.fst.specs.declared.Place.the-variants.{Nowhere}
 use Rattle.arcs.specs.State.{Tables}
 use Rattle.traceback.specs.declared.BestPath.{BestPath}
 use Rattle.traceback.specs.Table.{Counted, RelativeIs}
 use Rattle.traceback.specs.Right.{Parts, placesOf, bestAs, BestKeeps, ReadAsks, BestPathRight}
 use Rattle.readings.specs.declared.Listed.{Listed}
 use Rattle.readings.specs.Paths.{Outputs, placesIn}
-use Rattle.readings.specs.Right.{AlternativesAsk, listedAs, ListedKeeps, AlternativesRight}
+use Rattle.readings.specs.Right.{AlternativesAsk, ListedIs, AlternativesRight}
 use Rattle.readings.specs.Known.{ranks-known}
-pub use Rattle.checks.specs.Margin.{asked}
+use Rattle.checks.specs.Fit.{Wide}
+use Rattle.checks.specs.Margin.{asked}
 use Rattle.decoder.specs.declared.Decoder.{Decoder}
-use Rattle.decoder.specs.declared.Called.{Called}
 use Rattle.decoder.specs.declared.Called.the-variants.{Done, Refused}
 use Rattle.decoder.specs.Represents.{Represents, CalledBy, calledDone, calledRefused}
+use Rattle.decoder.specs.Contracts.{withMargin, unfit, keepOf, LeftOf}
 
 -- ---- the keep margin
 
@@ -41,12 +40,9 @@ pub asked-is : (keeps : Bool) (x : Float) → asked keeps x ≡ marginOf (cond k
 asked-is true x = refl
 asked-is false x = refl
 
-abbrev pub withMargin : Decoder → Bool → Float → Decoder
-withMargin d keeps x = record { graph = d .graph; config = d .config; cap = d .cap; keeps = keeps; margin = x; side = d .side; frames = d .frames; seq = d .seq; used = d .used }
-
-abbrev pub KeepIs : Decoder → Bool → Float → Called → Type 0
-KeepIs d keeps x r =
-    (g : Graph) (c : Settings) (l : Limits) (T : Tables) (m : Lent) (eps : List ℕ) (places : ℕ) (fs : List Heard) (st : State) → Represents g c l T m eps places d fs st → CalledBy g c l T m eps places (call g c l (keepCall (asked keeps x)) st) r
+margin-kept : (keeps : Bool) (x : Float) → asked keeps x ≡ marginOf (cond keeps (Within (cond keeps x 0f)) Off)
+margin-kept true x = refl
+margin-kept false x = refl
 
 module _ {g : Graph} {c : Settings} {l : Limits} {T : Tables} {m : Lent} {eps : List ℕ} {places : ℕ} {d : Decoder} {fs : List Heard} {st : State} (R : Represents g c l T m eps places d fs st) (keeps : Bool) (x : Float) where
   abbrev kept : Bool → Said
@@ -56,21 +52,17 @@ module _ {g : Graph} {c : Settings} {l : Limits} {T : Tables} {m : Lent} {eps : 
   unfolding call setKeep
   call-is b e = ap kept e
 
-  pub keep-refused : fairMargin (asked keeps x) ≡ false → CalledBy g c l T m eps places (call g c l (keepCall (asked keeps x)) st) (Refused d (record { number = 6; place = Nowhere }))
-  keep-refused e = subst (λ (s : Said). CalledBy g c l T m eps places s (Refused d (record { number = 6; place = Nowhere }))) (sym (call-is false e)) (calledRefused fs refl R)
-
-  pub keep-done : fairMargin (asked keeps x) ≡ true → (d' : Decoder) → d' ≡ withMargin d keeps x → CalledBy g c l T m eps places (call g c l (keepCall (asked keeps x)) st) (Done d')
-  keep-done e d' q =
+  -- the new value stands for the new margin
+  kept-is : fairMargin (asked keeps x) ≡ true → Represents g c l T m eps places (withMargin d keeps x) fs (kept true .state)
+  kept-is e =
       let f = R .fixed in
-      subst (λ (y : Decoder). CalledBy g c l T m eps places (call g c l (keepCall (asked keeps x)) st) (Done y)) (sym q)
-      (subst (λ (s : Said). CalledBy g c l T m eps places s (Done (withMargin d keeps x))) (sym (call-is true e))
-      (calledDone fs refl
-      (record {
+      record {
         fixed = record {
           good = f .good;
           floats = f .floats;
           of = f .of;
           states-are = f .states-are;
+          arcs-are = f .arcs-are;
           start-is = f .start-is;
           pdfs-are = f .pdfs-are;
           config-is = f .config-is;
@@ -82,7 +74,8 @@ module _ {g : Graph} {c : Settings} {l : Limits} {T : Tables} {m : Lent} {eps : 
           eps-is = f .eps-is;
         };
         standing = record { active = R .standing .active; frames = R .standing .frames; few = R .standing .few; margin = e };
-        margin-is = asked-is keeps x;
+        margin-is = margin-kept keeps x;
+        idle = ap (λ (b : Bool). cond b x 0f);
         frames-are = R .frames-are;
         seq-is = R .seq-is;
         fits = R .fits;
@@ -90,44 +83,27 @@ module _ {g : Graph} {c : Settings} {l : Limits} {T : Tables} {m : Lent} {eps : 
         stands = R .stands;
         finished = R .finished;
         newest = R .newest;
-      })))
+      }
+
+  pub keep-is : CalledBy g c l T m eps places (call g c l (keepCall (asked keeps x)) st) (keepOf d keeps x)
+  keep-is = go (fairMargin (asked keeps x)) refl
+    where
+      go : (b : Bool) → fairMargin (asked keeps x) ≡ b → CalledBy g c l T m eps places (call g c l (keepCall (asked keeps x)) st) (cond b (Done (withMargin d keeps x)) (Refused d unfit))
+      go true e = subst (λ (s : Said). CalledBy g c l T m eps places s (Done (withMargin d keeps x))) (sym (call-is true e)) (calledDone fs refl (kept-is e))
+      go false e = subst (λ (s : Said). CalledBy g c l T m eps places s (Refused d unfit)) (sym (call-is false e)) (calledRefused fs refl R)
+
+-- by the test of the margin
+pub keep-refuses : (d : Decoder) (keeps : Bool) (x : Float) → fairMargin (asked keeps x) ≡ false → Refused d unfit ≡ keepOf d keeps x
+keep-refuses d keeps x e = sym (ap (λ (b : Bool). cond b (Done (withMargin d keeps x)) (Refused d unfit)) e)
+
+pub keep-takes : (d : Decoder) (keeps : Bool) (x : Float) → fairMargin (asked keeps x) ≡ true → Done (withMargin d keeps x) ≡ keepOf d keeps x
+keep-takes d keeps x e = sym (ap (λ (b : Bool). cond b (Done (withMargin d keeps x)) (Refused d unfit)) e)
 
 -- ---- the reads, of stores that a call has left
 
--- each of these lengths is at least n
-abbrev pub Wide : ℕ → List ℕ → Type 0
-Wide n scratch = (k : ℕ) → k ∈ scratch → n ≤ k
-
--- what a read is not lent is given beside
-pub record LeftOf (tk : List ℕ) (sm : List Float) (rs : List ℕ) (ls : List ℤ) (d : Decoder) : Type 0 where
-  pub gaps : List Float
-  pub T : Tables
-  pub eps : List ℕ
-  pub places : ℕ
-  pub g : Graph
-  pub c : Settings
-  pub l : Limits
-  pub fs : List Heard
-  pub st : State
-  pub is : Represents g c l T (lent tk sm rs ls gaps) eps places d fs st
-
-abbrev pub FramesIs : Decoder → ℕ → Type 0
-FramesIs d r =
-    (g : Graph) (c : Settings) (l : Limits) (T : Tables) (m : Lent) (eps : List ℕ) (places : ℕ) (fs : List Heard) (st : State) → Represents g c l T m eps places d fs st → call g c l (readCall framesDecodedRead) st .answer ≡ countAnswer r
-
-pub frames-is : (d : Decoder) → FramesIs d (d .frames)
+pub frames-is : {g : Graph} {c : Settings} {l : Limits} {T : Tables} {m : Lent} {eps : List ℕ} {places : ℕ} {d : Decoder} {fs : List Heard} {st : State} → Represents g c l T m eps places d fs st → call g c l (readCall framesDecodedRead) st .answer ≡ countAnswer (d .frames)
 unfolding call readAnswer
-frames-is d g c l T m eps places fs st R = ap countAnswer (R .frames-are)
-
-pub record ActiveLeft (tk : List ℕ) (d : Decoder) : Type 0 where
-  pub sums : List Float
-  pub records : List ℕ
-  pub labels : List ℤ
-  pub left : LeftOf tk sums records labels d
-
-abbrev pub ActiveIs : List ℕ → Decoder → ℕ → Type 0
-ActiveIs tk d r =
-    (sm : List Float) (rs : List ℕ) (ls : List ℤ) (L : LeftOf tk sm rs ls d) → call (L .g) (L .c) (L .l) (readCall numActiveRead) (L .st) .answer ≡ countAnswer r
+frames-is R = ap countAnswer (R .frames-are)
 
 module _ {tk : List ℕ} {sm : List Float} {rs : List ℕ} {ls : List ℤ} {d : Decoder} (L : LeftOf tk sm rs ls d) where
   pub read-asks : (1 - d .side ≤ 1) × (d .graph .states * 8 ≤ length tk) × (d .graph .states * 4 ≤ length sm)
@@ -192,33 +168,6 @@ module _ {tk : List ℕ} {sm : List Float} {rs : List ℕ} {ls : List ℤ} {d : 
         }
 
     pub alternatives-is : (use-final : Bool) (max : ℕ) (o o' : Outputs) (r : Listed) → AlternativesRight tk sm finals rs ls (d .graph .states) (1 - d .side) (d .used) (d .frames) use-final max o o' r
-        → (listedAs r o' ≡ call (L .g) (L .c) (L .l) (readCall (alternativesRead use-final max (placesIn o))) (L .st) .answer) × ListedKeeps r o o'
+        → ListedIs (call (L .g) (L .c) (L .l) (readCall (alternativesRead use-final max (placesIn o))) (L .st) .answer) o o' r
     unfolding call readAnswer
-    alternatives-is use-final max o o' r B = (B .answer (L .g) finals-are (L .gaps) (L .st) (L .is .frames-are) finished, B .kept)
-
--- a read with final weights
-pub record FinalsLeft (tk : List ℕ) (sm : List Float) (rs : List ℕ) (ls : List ℤ) (finals : List Float) (d : Decoder) : Type 0 where
-  pub left : LeftOf tk sm rs ls d
-  pub finals-are : left .g .finals ≡ finals
-
-pub record RelativeLeft (tk : List ℕ) (sm finals : List Float) (d : Decoder) : Type 0 where
-  pub records : List ℕ
-  pub labels : List ℤ
-  pub left : FinalsLeft tk sm records labels finals d
-
-abbrev pub RelativeCostIs : (tk : List ℕ) (sm finals : List Float) → Decoder → Float → Type 0
-RelativeCostIs tk sm finals d r = (rs : List ℕ) (ls : List ℤ) (F : FinalsLeft tk sm rs ls finals d) → let L = F .left in call (L .g) (L .c) (L .l) (readCall relativeCostRead) (L .st) .answer ≡ costAnswer r
-
-abbrev pub BestPathIs : (tk : List ℕ) (sm : List Float) (rs : List ℕ) (ls : List ℤ) (finals : List Float) → Decoder → (use-final : Bool) → (m m' : Parts) → BestPath → Type 0
-BestPathIs tk sm rs ls finals d use-final m m' r =
-    (F : FinalsLeft tk sm rs ls finals d) → let L = F .left in (bestAs r m' ≡ call (L .g) (L .c) (L .l) (readCall (bestPathRead use-final (placesOf m))) (L .st) .answer) × BestKeeps r m m'
-
--- a read that works in scratch slices of these lengths, and of these places per record
-pub record AlternativesLeft (tk : List ℕ) (sm : List Float) (rs : List ℕ) (ls : List ℤ) (finals : List Float) (scratch perRecord : List ℕ) (d : Decoder) : Type 0 where
-  pub left : FinalsLeft tk sm rs ls finals d
-  pub wide : Wide (d .graph .states) scratch
-  pub wide-records : Wide (d .cap) perRecord
-
-abbrev pub AlternativesIs : (tk : List ℕ) (sm : List Float) (rs : List ℕ) (ls : List ℤ) (finals : List Float) → Decoder → (use-final : Bool) → (max : ℕ) → (o o' : Outputs) → Listed → Type 0
-AlternativesIs tk sm rs ls finals d use-final max o o' r =
-    (F : FinalsLeft tk sm rs ls finals d) → let L = F .left in (listedAs r o' ≡ call (L .g) (L .c) (L .l) (readCall (alternativesRead use-final max (placesIn o))) (L .st) .answer) × ListedKeeps r o o'
+    alternatives-is use-final max o o' r B = B .answer (L .g) finals-are (L .gaps) (L .st) (L .is .frames-are) finished

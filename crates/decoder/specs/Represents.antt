@@ -1,11 +1,12 @@
 -- What the decoder's value and the lent stores stand for between calls.
-use mathlib.Core.Path.{_≡_}
+use mathlib.Core.Path.{_≡_, refl}
 use Prim.Native.Nat.{ℕ, _-_, _≤_, _<_}
-use mathlib.Core.Option.{some}
+use mathlib.Core.Bool.{false}
+use mathlib.Core.Option.{none, some}
 use mathlib.Core.List.{List}
 use lib.Dec.{ltb}
 use lib.ListN.{length, getD}
-use Rattle.model.specs.Basics.{Place, nowhere, atArc, atState, atFrames, Refusal as ModelRefusal}
+use Rattle.model.specs.Basics.{0f, Place, nowhere, atArc, atState, atFrames, Refusal as ModelRefusal}
 use Rattle.model.specs.Graph.{Graph, states, hasEps}
 use Rattle.model.specs.Checked.{GoodGraph}
 use Rattle.model.specs.Path.{Path, Limits, fullAt}
@@ -21,9 +22,9 @@ use Rattle.records.specs.History.{History, tag}
 use Rattle.records.specs.Stands.{Stands}
 use Rattle.stores.specs.Shown.{Shown}
 use Rattle.stores.specs.Rep.{Lent, storeOf, Places}
-use Rattle.fst.specs.declared.Place.{Place as StoredPlace}
-use Rattle.fst.specs.declared.Place.the-variants.{Nowhere, AtArc, AtState, AtFrames}
-use Rattle.fst.specs.declared.Refusal.{Refusal}
+use Rattle.refusals.specs.declared.Place.{Place as StoredPlace}
+use Rattle.refusals.specs.declared.Place.the-variants.{Nowhere, AtArc, AtState, AtFrames}
+use Rattle.refusals.specs.declared.Refusal.{Refusal}
 use Rattle.arrivals.specs.declared.Setting.{Setting}
 use Rattle.arrivals.specs.Settled.{marginIn}
 use Rattle.arcs.specs.declared.Pass.the-variants.{Nonemitting}
@@ -40,12 +41,23 @@ pub record LimitsAre (l : Limits) (cap places : ℕ) : Type 0 where
   pub full : (ps : List Path) → l .full ps ≡ fullAt cap ps
   pub queue : l .queue ≡ some places
 
+-- the limits of these places, and of a decoder's own stores
+abbrev pub limitsBy : (cap places : ℕ) → Limits
+limitsBy cap places = record { full = fullAt cap; queue = some places; below = none; kept = none }
+
+pub limits-by : (cap places : ℕ) → LimitsAre (limitsBy cap places) cap places
+limits-by cap places = record { full = λ ps. refl; queue = refl }
+
+abbrev pub exact : Decoder → (places : ℕ) → Limits
+exact d places = limitsBy (d .cap) places
+
 -- what no call changes: the graph is accepted and its tables are those lent, and the stores have the places that a fitting asks for
 pub record Fixed (g : Graph) (c : Settings) (l : Limits) (T : Tables) (m : Lent) (eps : List ℕ) (places : ℕ) (d : Decoder) : Type 0 where
   pub good : GoodGraph g
   pub floats : Floats32 g
   pub of : TablesOf g Nonemitting T
   pub states-are : d .graph .states ≡ states g
+  pub arcs-are : d .graph .arcs ≡ length (g .ilabels)
   pub start-is : d .graph .start ≡ g .start
   pub pdfs-are : d .graph .pdfs ≡ g .pdfs
   pub config-is : configOf (d .config) ≡ c
@@ -56,11 +68,16 @@ pub record Fixed (g : Graph) (c : Settings) (l : Limits) (T : Tables) (m : Lent)
   pub eps-long : d .graph .states ≤ length eps
   pub eps-is : (s : ℕ) → s < d .graph .states → ltb 0 (getD eps s 0) ≡ hasEps g s
 
--- the copy's state, after these frames since the latest start
+-- without a margin its value is 0
+abbrev pub Idle : Decoder → Type 0
+Idle d = d .keeps ≡ false → d .margin ≡ 0f
+
+-- the copy's state, after these frames since the latest start; of the decoder's value only `side` and `used` are left to the program
 pub record Represents (g : Graph) (c : Settings) (l : Limits) (T : Tables) (m : Lent) (eps : List ℕ) (places : ℕ) (d : Decoder) (fs : List Heard) (st : State) : Type 0 where
   pub fixed : Fixed g c l T m eps places d
   pub standing : Standing g fs st
   pub margin-is : st .margin ≡ marginOf (marginIn (settingOf d))
+  pub idle : Idle d
   pub frames-are : st .frames ≡ d .frames
   pub seq-is : st .seq ≡ d .seq
   pub fits : d .used ≤ d .cap
@@ -77,11 +94,6 @@ pub record Left (T : Tables) (m : Lent) (eps : List ℕ) (places : ℕ) (d : Dec
   pub fs : List Heard
   pub st : State
   pub is : Represents g c l T m eps places d fs st
-
--- a frame has a scratch too, with a place for every state
-pub record FrameLeft (T : Tables) (m : Lent) (eps : List ℕ) (places scratch : ℕ) (d : Decoder) : Type 0 where
-  pub left : Left T m eps places d
-  pub wide : d .graph .states ≤ scratch
 
 -- ---- answers
 

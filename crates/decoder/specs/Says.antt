@@ -1,119 +1,126 @@
--- What the answers of a list of calls say, in the decoder's terms: from a fitting on, every answer says of the calls before it what the theorems on the copy say. Assumes nothing.
-use mathlib.Core.Path.{_≡_, refl, sym, ap, ap₂, _∙_, subst}
+-- What the answers of a list of calls say: of the calls before each what the theorems on the copy say. Assumes nothing.
+use mathlib.Core.Path.{_≡_, refl, sym, ap, _∙_, subst}
 use Prim.Native.Nat.{ℕ, suc}
 use native.Mathlib.Omega.{arith}
-use mathlib.Core.Option.{Option, none, some}
+use mathlib.Core.Bool.{true}
+use mathlib.Core.Option.{none, some}
 use mathlib.Core.List.{List, [], _∷_, _++_}
-use lib.IntN.{ℤ}
-use lib.ListN.{length, getD}
-use Rattle.lists.specs.Lists.{_∈_}
-use Rattle.lists.specs.Count.{Nodup}
+use lib.ListN.{length, getD, length-append}
 use Rattle.model.specs.Graph.{Graph, checkGraph}
-use Rattle.model.specs.Path.{Limits, fullAt}
-use Rattle.model.specs.Reads.{Traced, useFinals}
-use Rattle.model.specs.Calls.{Call, startCall, Reading, Answer, doneAnswer, pathAnswer, pathsAnswer, readingsAnswer, answers, call}
+use Rattle.model.specs.Path.{Limits}
+use Rattle.model.specs.Cutoff.{Config as Settings}
+use Rattle.model.specs.Passes.{State, fitted, fair}
+use Rattle.model.specs.Reads.{useFinals}
+use Rattle.model.specs.Calls.{Call, startCall, Said, call, Answer, doneAnswer, pathsAnswer, readingsAnswer}
 use Rattle.copy_laws.specs.Sums.{Floats32}
-use Rattle.copy_laws.specs.Points.{reached}
-use Rattle.copy_laws.specs.Told.{toldOf}
-use Rattle.copy_laws.specs.Claims.{OnePath, OneTrace, Own, NothingCut, BestOrNone, Says, saysAlternatives, saysReadings}
-use Rattle.copy_laws.specs.Sayings.{asksFinals, listsIn, wordsIn, words-say, lists-say, best-says}
-use Rattle.copy_laws.specs.Segments.{Tiles}
-use Rattle.copy_laws.specs.Statement.{copy-says}
-use Rattle.cutoff.specs.declared.Config.{Config}
-use Rattle.cutoff.specs.Costs.{configOf}
+use Rattle.copy_laws.specs.Told.{limitedAnswers, limitedAfter, tell}
+use Rattle.copy_laws.specs.Claims.{OneTrace, Own, Says, saysAlternatives, saysReadings}
+use Rattle.copy_laws.specs.Sayings.{asksFinals, words-say, lists-say, best-says}
+use Rattle.copy_laws.specs.Statement.{refusal-numbers, start-refused, decoder-says}
 use Rattle.stores.specs.Rep.{Lent}
-use Rattle.arcs.specs.State.{Tables}
+use Rattle.checks.specs.Fit.{recordPlaces, fit-beam}
 use Rattle.decoder.specs.declared.Decoder.{Decoder}
 use Rattle.decoder.specs.declared.Called.{Called}
 use Rattle.decoder.specs.declared.Fitted.{Fitted}
-use Rattle.decoder.specs.Represents.{CalledBy, calledDone, calledRefused}
-use Rattle.decoder.specs.Fit.{capacityOf, FitIs, fitGraph, fitUnfit, fitCalled}
-use Rattle.decoder.specs.Behaves.{Runs, told, FittedAs, decoder-alike}
+use Rattle.decoder.specs.Represents.{limits-by, exact, CalledBy, calledDone, calledRefused}
+use Rattle.decoder.specs.Contracts.{FitIs, fitGraph, fitUnfit, fitCalled}
+use Rattle.decoder.specs.Behaves.{none-yet, one-more}
+use Rattle.decoder.specs.Alike.{Follows, behaves-follows, runs-limited, first-follows, decoder-limited, told-is}
+use Rattle.decoder.specs.Demand3.{FittedAs, Fitting, settings, RunsFrom, calls, Answered, RefusalsNumbered, StartsRefused, past, point, WordsOfOnePath, ReadingsDistinct, SegmentsTile, CostsLeast, AlternativesOwn, ReadingsTraced}
 
--- ---- the calls before one, it, and those after it
+-- what a fitting knows of its graph and settings: they are accepted, and the weights are f32 values
+pub record Known (F : Fitting) : Type 0 where
+  pub passed : checkGraph (F .graph) ≡ none
+  pub floats : Floats32 (F .graph)
+  pub beam : fair (F .config .beam) ≡ true
 
-told-split : (ks : List Call) (xs : List Answer) → length ks ≡ length xs → (k : Call) (a : Answer) (later : List Call) (ys : List Answer) → told (ks ++ (k ∷ later)) (xs ++ (a ∷ ys)) ≡ told ks xs ++ ((k, toldOf a) ∷ told later ys)
-told-split [] [] e k a later ys = refl
-told-split [] (x ∷ xs) e k a later ys = absurd (omega arith)
-told-split (j ∷ ks) [] e k a later ys = absurd (omega arith)
-told-split (j ∷ ks) (x ∷ xs) e k a later ys = ap (λ (t : List (Call × ℕ)). (j, toldOf x) ∷ t) (told-split ks xs (omega arith) k a later ys)
-
-told-length : (ks : List Call) (xs : List Answer) → length ks ≡ length xs → length (told ks xs) ≡ length xs
-told-length [] [] e = refl
-told-length [] (x ∷ xs) e = absurd (omega arith)
-told-length (j ∷ ks) [] e = absurd (omega arith)
-told-length (j ∷ ks) (x ∷ xs) e = ap suc (told-length ks xs (omega arith))
-
-at-middle : (xs : List Answer) (a d : Answer) (ys : List Answer) → getD (xs ++ (a ∷ ys)) (length xs) d ≡ a
-at-middle [] a d ys = refl
-at-middle (x ∷ xs) a d ys = at-middle xs a d ys
-
--- ---- what a fitting knows of the graph
-
-pub record Fitting (g : Graph) : Type 0 where
-  pub passed : checkGraph g ≡ none
-  pub floats : Floats32 g
-
-fitting-is : (g : Graph) (T : Tables) (m m' : Lent) (scratch perRecord : List ℕ) (places : ℕ) (eps eps' : List ℕ) (c : Config) (f : Fitted) (a : Answer) (d : Decoder) → FitIs g T m m' scratch perRecord places eps eps' c f → FittedAs f a d → Fitting g
-fitting-is g T m m' scratch perRecord places eps eps' c f a d (fitGraph w x y z) A = absurd A
-fitting-is g T m m' scratch perRecord places eps eps' c f a d (fitUnfit w x y z) A = absurd A
-fitting-is g T m m' scratch perRecord places eps eps' c f a d (fitCalled {r} x y k) A = record { passed = x; floats = known r _ (k own (record { full = λ ps. refl; queue = refl })) }
+known : (F : Fitting) → Known F
+known F = go (F .answered) (F .fit-is) (F .fitted)
   where
-    own : Limits
-    own = record { full = fullAt (capacityOf m perRecord); queue = some places; below = none; kept = none }
+    floats : {l : Limits} {s : Said} {r : Called} → CalledBy (F .graph) (settings F) l (F .tables) (F .after) (F .eps-after) (length (F .queue)) s r → Floats32 (F .graph)
+    floats (calledDone fs e R) = R .fixed .floats
+    floats (calledRefused fs e R) = R .fixed .floats
 
-    known : (r : Called) (s : _) → CalledBy g (configOf c) own T m' eps' places s r → Floats32 g
-    known r s (calledDone fs e R) = R .fixed .floats
-    known r s (calledRefused fs e R) = R .fixed .floats
+    go : (f : Fitted) → FitIs (F .graph) (F .tables) (F .before) (F .after) (F .lengths) (F .queue) (F .queue-after) (F .eps) (F .eps-after) (F .config) f → FittedAs f (F .first) (F .decoder) → Known F
+    go f (fitGraph w a b e d) A = absurd A
+    go f (fitUnfit a b e d i) A = absurd A
+    go f (fitCalled a b k W e) A = record { passed = a; floats = floats (k _ (limits-by (recordPlaces (F .lengths)) (length (F .queue)))); beam = fit-beam (F .graph) (F .config) (F .lengths) b }
 
--- ---- every answer
+-- as many answers as calls
+as-many : (F : Fitting) {ks : List (Limits × Call)} {ans : List Answer} {m : Lent} {d : Decoder} → RunsFrom F ks ans m d → length ks ≡ length ans
+as-many F none-yet = refl
+as-many F (one-more {ks = ks} {ans = ans} {k = k} {a = a} run B) = let e = as-many F run in let x = length-append ks (k ∷ []) in let y = length-append ans (a ∷ []) in omega arith
 
-module _ (g : Graph) (T : Tables) (m m' : Lent) (scratch perRecord : List ℕ) (places : ℕ) (eps eps' : List ℕ) (c : Config) (f : Fitted) (first : Answer) (d : Decoder) (F : FitIs g T m m' scratch perRecord places eps eps' c f) (A : FittedAs f first d)
-    (before : List Call) (xs : List Answer) (k : Call) (a : Answer) (later : List Call) (ys : List Answer) (e : length before ≡ length xs) (R : Runs T (g .finals) eps' places m' d (before ++ (k ∷ later)) (xs ++ (a ∷ ys))) where
-  -- the calls before this one, from the fitting's own start on, each with what the copy is told of it
-  abbrev pub past : List (Call × ℕ)
-  past = told (startCall ∷ before) (first ∷ xs)
+at-end : (xs : List Answer) (a d : Answer) (n : ℕ) → n ≡ length xs → getD (xs ++ (a ∷ [])) n d ≡ a
+at-end xs a d n e = ap (λ (k : ℕ). getD (xs ++ (a ∷ [])) k d) e ∙ go xs
+  where
+    go : (ys : List Answer) → getD (ys ++ (a ∷ [])) (length ys) d ≡ a
+    go [] = refl
+    go (y ∷ ys) = go ys
 
-  known : Fitting g
-  known = fitting-is g T m m' scratch perRecord places eps eps' c f first d F A
+module _ (A : Answered) where
+  abbrev F : Fitting
+  F = A .fitting
 
-  alike : answers g (configOf c) (past ++ ((k, toldOf a) ∷ told later ys)) ≡ first ∷ xs ++ (a ∷ ys)
-  alike =
-      ap (answers g (configOf c)) (sym (told-split (startCall ∷ before) (first ∷ xs) (ap suc e) k a later ys))
-      ∙ decoder-alike g T m m' scratch perRecord places eps eps' c f first d (before ++ (k ∷ later)) (xs ++ (a ∷ ys)) F A R
+  abbrev g : Graph
+  g = F .graph
 
-  -- of the copy that is told: what such a call may answer after those calls
-  pub run-says : Says g (configOf c) past k a
-  run-says =
-      subst (Says g (configOf c) past k) (ap₂ (λ (l : List Answer) (i : ℕ). getD l i doneAnswer) alike (told-length (startCall ∷ before) (first ∷ xs) (ap suc e)) ∙ at-middle (first ∷ xs) a doneAnswer ys)
-      (copy-says g (configOf c) (known .passed) (known .floats) past k (toldOf a) (told later ys))
+  abbrev c : Settings
+  c = settings F
 
-  -- the words of a best path, of every alternative, and of every listed and traced reading are the nonzero output labels of one path over the frames decoded, ending in a final state where finals count
-  pub run-words : (ws : List ℤ) → ws ∈ wordsIn a → OnePath g (reached g (configOf c) past) (useFinals g (reached g (configOf c) past .state) (asksFinals k)) ws
-  run-words = words-say g (configOf c) past k a run-says
+  abbrev before : List (Limits × Call)
+  before = calls F (A .list)
 
-  -- its cost is its path's sum, and where nothing was cut the least; where there is then none, there is no path
-  pub run-costs-least : (o : Option Traced) → a ≡ pathAnswer o → BestOrNone g (reached g (configOf c) past) (NothingCut g (configOf c) past) (useFinals g (reached g (configOf c) past .state) (asksFinals k)) o
-  run-costs-least o q = best-says g (configOf c) past k o (subst (Says g (configOf c) past k) q run-says)
+  abbrev k : Call
+  k = A .call .1
 
-  -- its segments are nonempty, abut, and run from 0 to the frames decoded
-  pub run-segments : (tr : Traced) → a ≡ pathAnswer (some tr) → Tiles 0 (reached g (configOf c) past .state .frames) (tr .phones) × (reached g (configOf c) past .state .frames ≡ 0 → tr .phones ≡ [])
-  run-segments tr q = let b = run-costs-least (some tr) q in (b .own .tiles, b .own .none-at-0)
+  -- what the copy is told is what the definition tells
+  past-is : past A ≡ tell g c before
+  past-is = told-is g c before (fitted g) (F .first ∷ A .answered) (decoder-limited F (A .list) (A .answered) (A .stores) (A .decoder) (A .runs))
 
-  -- no two alternatives have the same words, no two listed readings, and no two traced ones
-  pub run-distinct : (lists : List (List ℤ)) → lists ∈ listsIn a → Nodup lists
-  run-distinct = lists-say g (configOf c) past k a run-says
+  answer-is : getD (limitedAnswers g c (before ++ (A .call ∷ []))) (length before) doneAnswer ≡ A .answer
+  answer-is =
+      ap (λ (l : List Answer). getD l (length before) doneAnswer) (decoder-limited F (A .list ++ (A .call ∷ [])) (A .answered ++ (A .answer ∷ [])) (A .stores-after) (A .decoder-after) (one-more (A .runs) (A .behaves)))
+      ∙ at-end (F .first ∷ A .answered) (A .answer) doneAnswer (length before) (ap suc (as-many F (A .runs)))
 
-  -- an alternative's segments, frames and cost are those of its path too
-  pub run-alternatives : (trs : List Traced) → a ≡ pathsAnswer trs → (tr : Traced) → tr ∈ trs → Own g (reached g (configOf c) past) (useFinals g (reached g (configOf c) past .state) (asksFinals k)) tr
-  run-alternatives trs q tr i = each k (subst (Says g (configOf c) past k) q run-says)
-    where
-      each : (j : Call) → Says g (configOf c) past j (pathsAnswer trs) → Own g (reached g (configOf c) past) (useFinals g (reached g (configOf c) past .state) (asksFinals j)) tr
-      each j (saysAlternatives b) = b .each tr i
+  -- what such a call may answer after those calls
+  pub run-says : Says g c (past A) k (A .answer)
+  run-says = subst (λ (ks : List (Call × ℕ)). Says g c ks k (A .answer)) (sym past-is) (subst (Says g c (tell g c before) k) answer-is (decoder-says g c (known F .passed) (known F .floats) before (A .call .0) k []))
 
-  -- each word of a traced reading has the frame of its arc on its path
-  pub run-traced : (rs : List Reading) (trs : List Traced) → a ≡ readingsAnswer rs trs → (tr : Traced) → tr ∈ trs → OneTrace g (reached g (configOf c) past) (useFinals g (reached g (configOf c) past .state) (asksFinals k)) tr
-  run-traced rs trs q tr i = each k (subst (Says g (configOf c) past k) q run-says)
-    where
-      each : (j : Call) → Says g (configOf c) past j (readingsAnswer rs trs) → OneTrace g (reached g (configOf c) past) (useFinals g (reached g (configOf c) past .state) (asksFinals j)) tr
-      each j (saysReadings b) = b .traced tr i
+  -- where the definition stands before the call
+  abbrev standing : State
+  standing = limitedAfter g c (A .list) (call g c (exact (F .decoder) (length (F .queue))) startCall (fitted g) .state)
+
+  follows : Follows g c (F .tables) (F .eps-after) (length (F .queue)) (A .call) standing (A .answer) (A .stores-after) (A .decoder-after)
+  follows = behaves-follows g c (F .tables) (F .eps-after) (length (F .queue)) (runs-limited g c (F .tables) (F .eps-after) (length (F .queue)) (first-follows F .next) (A .runs) .1) (A .call) (A .answer) (A .stores-after) (A .decoder-after) (A .behaves)
+
+pub run-numbered : RefusalsNumbered
+run-numbered A r q = refusal-numbers (g A) (c A) (A .call .0) (k A) (standing A) r (follows A .says ∙ q)
+
+pub run-start-refused : StartsRefused
+run-start-refused A r e q =
+    start-refused (g A) (c A) (known (F A) .passed) (known (F A) .beam) (A .call .0) (standing A) r (ap (λ (j : Call). call (g A) (c A) (A .call .0) j (standing A) .answer) (sym e) ∙ follows A .says ∙ q)
+
+pub run-words : WordsOfOnePath
+run-words A = words-say (g A) (c A) (past A) (k A) (A .answer) (run-says A)
+
+pub run-distinct : ReadingsDistinct
+run-distinct A = lists-say (g A) (c A) (past A) (k A) (A .answer) (run-says A)
+
+pub run-costs-least : CostsLeast
+run-costs-least A o q = best-says (g A) (c A) (past A) (k A) o (subst (Says (g A) (c A) (past A) (k A)) q (run-says A))
+
+pub run-segments : SegmentsTile
+run-segments A tr q = let b = run-costs-least A (some tr) q in (b .own .tiles, b .own .none-at-0)
+
+pub run-alternatives : AlternativesOwn
+run-alternatives A trs q tr i = each (k A) (subst (Says (g A) (c A) (past A) (k A)) q (run-says A))
+  where
+    each : (j : Call) → Says (g A) (c A) (past A) j (pathsAnswer trs) → Own (g A) (point A) (useFinals (g A) (point A .state) (asksFinals j)) tr
+    each j (saysAlternatives b) = b .each tr i
+
+pub run-traced : ReadingsTraced
+run-traced A rs trs q tr i = each (k A) (subst (Says (g A) (c A) (past A) (k A)) q (run-says A))
+  where
+    each : (j : Call) → Says (g A) (c A) (past A) j (readingsAnswer rs trs) → OneTrace (g A) (point A) (useFinals (g A) (point A .state) (asksFinals j)) tr
+    each j (saysReadings b) = b .traced tr i

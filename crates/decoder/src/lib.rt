@@ -1,34 +1,39 @@
 // The decoder over lent stores: the fitter, starts, frames, the keep margin, and the reads.
 ghost use mathlib.Core.Path.{_≡_};
 ghost use mathlib.Core.Logic.{_⊎_};
-ghost use Prim.Native.Nat.{_*_, _-_, _≤_, _<_};
+ghost use mathlib.Core.Bool.{cond};
+ghost use Prim.Native.Nat.{_*_, _-_, _/_, _≤_, _<_};
 ghost use mathlib.Core.List.{[], _∷_};
 ghost use lib.ListN.{length};
+ghost use Rattle.model.specs.Basics.{0f};
 ghost use Rattle.stores.specs.Rep.{lent};
 ghost use Rattle.arcs.specs.State.{tables};
 ghost use Rattle.nonemitting.specs.Expand.{graphTables};
 ghost use Rattle.traceback.specs.Right.{parts};
 ghost use Rattle.readings.specs.Paths.{outputs};
+ghost use Rattle.readings.specs.Right.{scratch};
 ghost use Rattle.listing.specs.Places.{entryPlaces, keptPlaces};
 ghost use Rattle.reading_list.specs.Outputs.{outputs as listOutputs};
+ghost use Rattle.reading_list.specs.Scratch.{scratch as listScratch};
 ghost use Rattle.fst.specs.Answer.{graphOf};
-ghost use Rattle.decoder.specs.Represents.{settingOf, Left, FrameLeft};
+ghost use Rattle.decoder.specs.Represents.{settingOf, Left};
+ghost use Rattle.decoder.specs.Contracts.{Behind, StartIs, FrameIs, withMargin, keepOf, unfit, fittedBy, FitIs, FrameLeft, ActiveLeft, FinalsLeft, RelativeLeft, AlternativesLeft, ReadingsLeft, ActiveIs, RelativeCostIs, BestPathIs, AlternativesIs, ReadingsIs};
 ghost use Rattle.decoder.specs.Begin.{movedTo, emptiedOf, turnedOf, BothCleared, BeginAsks, BeginIs};
-ghost use Rattle.decoder.specs.Fit.{perHistoryOf, perRecordOf, scratchOf, fittedBy, newDecoder, FitIs};
-ghost use Rattle.decoder.specs.Frame.{NewestIs, BackIs, RunGiven, RunIs, StartIs, FrameIs};
-ghost use Rattle.decoder.specs.Listed.{ReadingsLeft, ReadingsIs};
-ghost use Rattle.decoder.specs.Reads.{withMargin, KeepIs, FramesIs, ActiveLeft, ActiveIs, RelativeLeft, RelativeCostIs, FinalsLeft, BestPathIs, AlternativesLeft, AlternativesIs};
+ghost use Rattle.decoder.specs.Frame.{NewestIs, BackIs, RunGiven, RunIs};
+ghost use Rattle.decoder.specs.Parts.{AdvanceIs};
+ghost use Rattle.decoder.specs.Fit.{lengthsOf, newDecoder};
 use arcs::Passed;
 use arcs::Work;
 use arrivals::Setting;
+use checks::Lengths;
 use cutoff::Config;
 use fst::Built;
 use fst::Graph;
 use fst::NO_STATE;
-use fst::Place;
-use fst::Refusal;
 use reading_list::ReadingList;
 use readings::Listed;
+use refusals::Place;
+use refusals::Refusal;
 use tokens::Token;
 use traceback::BestPath;
 
@@ -70,6 +75,16 @@ fn setting_of(d: Decoder) -> Setting
         frame: d.frames,
         keeps: d.keeps,
         margin: d.margin,
+    }
+}
+
+// 6, which has no place.
+fn refused() -> Refusal
+    ensures { λ r. ⌜ r ≡ unfit ⌝ }
+{
+    Refusal {
+        number: refusals::BAD_SETTING,
+        place: Place::Nowhere,
     }
 }
 
@@ -197,6 +212,50 @@ fn begin(
     }
 }
 
+// A start within the places of the stores: what lies behind them is not handed on.
+fn begin_within(
+    tokens: &mut [u32],
+    sums: &mut [f32],
+    records: &mut [u32],
+    labels: &mut [i32],
+    gaps: &mut [f32],
+    queue: &mut [u32],
+    eps: &[u8],
+    offsets: &[u32],
+    ilabels: &[i32],
+    olabels: &[i32],
+    weights: &[f32],
+    nextstates: &[u32],
+    tid2pdf: &[i32],
+    tid2phone: &[i32],
+    d: Decoder,
+) -> Called
+    requires { ⌜ BeginAsks (graphTables (now offsets) (now ilabels) (now olabels) (now weights) (now nextstates) (now tid2pdf) (now tid2phone)) (lent (now tokens) (now sums) (now records) (now labels) (now gaps)) (now eps) (length (now queue)) d ⌝ }
+    ensures { λ r. ⌜ (BeginIs (graphTables (now (offsets .entry)) (now (ilabels .entry)) (now (olabels .entry)) (now (weights .entry)) (now (nextstates .entry)) (now (tid2pdf .entry)) (now (tid2phone .entry))) (lent (now (tokens .entry)) (now (sums .entry)) (now (records .entry)) (now (labels .entry)) (now (gaps .entry))) (lent (now (tokens .exit)) (now (sums .exit)) (now (records .exit)) (now (labels .exit)) (now (gaps .exit))) (now (eps .entry)) (length (now (queue .entry))) d r) × (Behind (d .graph .states) (d .cap) (lent (now (tokens .entry)) (now (sums .entry)) (now (records .entry)) (now (labels .entry)) (now (gaps .entry))) (lent (now (tokens .exit)) (now (sums .exit)) (now (records .exit)) (now (labels .exit)) (now (gaps .exit)))) ⌝ }
+{
+    let t = d.graph.states as usize * 8;
+    let s = d.graph.states as usize * 4;
+    let r = d.cap as usize * 8;
+    let l = d.cap as usize * 2;
+    begin(
+        &mut tokens[..t],
+        &mut sums[..s],
+        &mut records[..r],
+        &mut labels[..l],
+        &mut gaps[..l],
+        queue,
+        eps,
+        offsets,
+        ilabels,
+        olabels,
+        weights,
+        nextstates,
+        tid2pdf,
+        tid2phone,
+        d,
+    )
+}
+
 fn new_decoder(graph: Graph, config: Config, cap: u32) -> Decoder
     ensures { λ r. ⌜ r ≡ newDecoder graph config cap ⌝ }
 {
@@ -240,6 +299,10 @@ pub fn fit(
     route: &[u32],
     history_keys: &[u64],
     history_skips: &[u32],
+    kept_hashes: &[u64],
+    kept_links: &[u32],
+    kept_sums: &[f32],
+    order: &[u32],
     eps: &mut [u8],
     offsets: &[u32],
     ilabels: &[i32],
@@ -253,7 +316,7 @@ pub fn fit(
     pdfs: u32,
     config: Config,
 ) -> Fitted
-    ensures { λ r. ⌜ FitIs (graphOf (now (offsets .entry)) (now (ilabels .entry)) (now (olabels .entry)) (now (weights .entry)) (now (nextstates .entry)) (now (finals .entry)) (now (tid2pdf .entry)) (now (tid2phone .entry)) start pdfs) (graphTables (now (offsets .entry)) (now (ilabels .entry)) (now (olabels .entry)) (now (weights .entry)) (now (nextstates .entry)) (now (tid2pdf .entry)) (now (tid2phone .entry))) (lent (now (tokens .entry)) (now (sums .entry)) (now (records .entry)) (now (labels .entry)) (now (gaps .entry))) (lent (now (tokens .exit)) (now (sums .exit)) (now (records .exit)) (now (labels .exit)) (now (gaps .exit))) (scratchOf (now (scratch .entry)) (now (keys .entry)) (now (places .entry)) (now (own .entry)) (now (heads .entry)) (now (list .entry))) (perRecordOf (now (lists .entry)) (now (route .entry)) (now («history_keys» .entry)) (now («history_skips» .entry))) (length (now (queue .entry))) (now (eps .entry)) (now (eps .exit)) config r ⌝ }
+    ensures { λ r. ⌜ FitIs (graphOf (now (offsets .entry)) (now (ilabels .entry)) (now (olabels .entry)) (now (weights .entry)) (now (nextstates .entry)) (now (finals .entry)) (now (tid2pdf .entry)) (now (tid2phone .entry)) start pdfs) (graphTables (now (offsets .entry)) (now (ilabels .entry)) (now (olabels .entry)) (now (weights .entry)) (now (nextstates .entry)) (now (tid2pdf .entry)) (now (tid2phone .entry))) (lent (now (tokens .entry)) (now (sums .entry)) (now (records .entry)) (now (labels .entry)) (now (gaps .entry))) (lent (now (tokens .exit)) (now (sums .exit)) (now (records .exit)) (now (labels .exit)) (now (gaps .exit))) (lengthsOf (lent (now (tokens .entry)) (now (sums .entry)) (now (records .entry)) (now (labels .entry)) (now (gaps .entry))) (now (eps .entry)) (now (scratch .entry)) (now (keys .entry)) (now (places .entry)) (now (own .entry)) (now (heads .entry)) (now (list .entry)) (now (lists .entry)) (now (route .entry)) (now («history_keys» .entry)) (now («history_skips» .entry)) (now («kept_hashes» .entry)) (now («kept_links» .entry)) (now («kept_sums» .entry)) (now (order .entry))) (now (queue .entry)) (now (queue .exit)) (now (eps .entry)) (now (eps .exit)) config r ⌝ }
 {
     match fst::build(
         offsets,
@@ -269,42 +332,34 @@ pub fn fit(
     ) {
         Built::Refused(why) => Fitted::Unfit(why),
         Built::Accepted(graph) => {
-            if checks::config_wrong(config) {
-                return Fitted::Unfit(Refusal {
-                    number: 6,
-                    place: Place::Nowhere,
-                });
-            }
-            let cap = checks::capacity(
-                records.len(),
-                labels.len(),
-                gaps.len(),
-                lists.len(),
-                route.len(),
-                history_keys.len(),
-                history_skips.len(),
-            );
-            if checks::stores_wrong(
-                tokens.len(),
-                sums.len(),
-                eps.len(),
-                scratch.len(),
-                keys.len(),
-                places.len(),
-                own.len(),
-                heads.len(),
-                list.len(),
-                graph.states as usize,
-                cap,
-            ) {
-                return Fitted::Unfit(Refusal {
-                    number: 6,
-                    place: Place::Nowhere,
-                });
+            let lengths = Lengths {
+                tokens: tokens.len(),
+                sums: sums.len(),
+                eps: eps.len(),
+                scratch: scratch.len(),
+                keys: keys.len(),
+                places: places.len(),
+                own: own.len(),
+                heads: heads.len(),
+                list: list.len(),
+                records: records.len(),
+                labels: labels.len(),
+                gaps: gaps.len(),
+                lists: lists.len(),
+                route: route.len(),
+                history_keys: history_keys.len(),
+                history_skips: history_skips.len(),
+                kept_hashes: kept_hashes.len(),
+                kept_links: kept_links.len(),
+                kept_sums: kept_sums.len(),
+                order: order.len(),
+            };
+            if checks::fit_wrong(config, lengths, graph.states as usize) {
+                return Fitted::Unfit(refused());
             }
             fst::fill_eps(offsets, ilabels, eps);
-            let d = new_decoder(graph, config, cap as u32);
-            fitted_by(begin(
+            let d = new_decoder(graph, config, checks::record_places(lengths) as u32);
+            fitted_by(begin_within(
                 tokens,
                 sums,
                 records,
@@ -344,9 +399,9 @@ pub fn start(
     decoder: Decoder,
 ) -> Called
     requires { ⌜ Left (graphTables (now offsets) (now ilabels) (now olabels) (now weights) (now nextstates) (now tid2pdf) (now tid2phone)) (lent (now tokens) (now sums) (now records) (now labels) (now gaps)) (now eps) (length (now queue)) decoder ⌝ }
-    ensures { λ r. ⌜ StartIs (graphTables (now (offsets .entry)) (now (ilabels .entry)) (now (olabels .entry)) (now (weights .entry)) (now (nextstates .entry)) (now (tid2pdf .entry)) (now (tid2phone .entry))) (lent (now (tokens .entry)) (now (sums .entry)) (now (records .entry)) (now (labels .entry)) (now (gaps .entry))) (lent (now (tokens .exit)) (now (sums .exit)) (now (records .exit)) (now (labels .exit)) (now (gaps .exit))) (now (eps .entry)) (length (now (queue .entry))) decoder r ⌝ }
+    ensures { λ r. ⌜ StartIs (graphTables (now (offsets .entry)) (now (ilabels .entry)) (now (olabels .entry)) (now (weights .entry)) (now (nextstates .entry)) (now (tid2pdf .entry)) (now (tid2phone .entry))) (lent (now (tokens .entry)) (now (sums .entry)) (now (records .entry)) (now (labels .entry)) (now (gaps .entry))) (lent (now (tokens .exit)) (now (sums .exit)) (now (records .exit)) (now (labels .exit)) (now (gaps .exit))) (now (queue .entry)) (now (queue .exit)) (now (eps .entry)) decoder r ⌝ }
 {
-    begin(
+    begin_within(
         tokens,
         sums,
         records,
@@ -469,8 +524,8 @@ fn refused_at(d: Decoder, number: u32) -> Called
     Called::Refused(d, Refusal { number, place })
 }
 
-// The Rust's `advance_frame`. A refused frame leaves every later answer as if it had not been sent.
-pub fn frame(
+// A frame over stores of just their places.
+fn advance(
     tokens: &mut [u32],
     sums: &mut [f32],
     records: &mut [u32],
@@ -490,7 +545,7 @@ pub fn frame(
     decoder: Decoder,
 ) -> Called
     requires { ⌜ FrameLeft (graphTables (now offsets) (now ilabels) (now olabels) (now weights) (now nextstates) (now tid2pdf) (now tid2phone)) (lent (now tokens) (now sums) (now records) (now labels) (now gaps)) (now eps) (length (now queue)) (length (now scratch)) decoder ⌝ }
-    ensures { λ r. ⌜ FrameIs (graphTables (now (offsets .entry)) (now (ilabels .entry)) (now (olabels .entry)) (now (weights .entry)) (now (nextstates .entry)) (now (tid2pdf .entry)) (now (tid2phone .entry))) (lent (now (tokens .entry)) (now (sums .entry)) (now (records .entry)) (now (labels .entry)) (now (gaps .entry))) (lent (now (tokens .exit)) (now (sums .exit)) (now (records .exit)) (now (labels .exit)) (now (gaps .exit))) (now (eps .entry)) (length (now (queue .entry))) (now (loglikes .entry)) decoder r ⌝ }
+    ensures { λ r. ⌜ AdvanceIs (graphTables (now (offsets .entry)) (now (ilabels .entry)) (now (olabels .entry)) (now (weights .entry)) (now (nextstates .entry)) (now (tid2pdf .entry)) (now (tid2phone .entry))) (lent (now (tokens .entry)) (now (sums .entry)) (now (records .entry)) (now (labels .entry)) (now (gaps .entry))) (lent (now (tokens .exit)) (now (sums .exit)) (now (records .exit)) (now (labels .exit)) (now (gaps .exit))) (now (queue .entry)) (now (queue .exit)) (now (scratch .entry)) (now (scratch .exit)) (now (eps .entry)) (now (loglikes .entry)) decoder r ⌝ }
 {
     let wrong = checks::check_frame(loglikes, decoder.frames, decoder.graph.pdfs);
     if wrong != 0 {
@@ -524,6 +579,61 @@ pub fn frame(
     }
 }
 
+// The Rust's `advance_frame`. A refused frame leaves every later answer as if it had not been sent.
+pub fn frame(
+    tokens: &mut [u32],
+    sums: &mut [f32],
+    records: &mut [u32],
+    labels: &mut [i32],
+    gaps: &mut [f32],
+    queue: &mut [u32],
+    scratch: &mut [f32],
+    eps: &[u8],
+    offsets: &[u32],
+    ilabels: &[i32],
+    olabels: &[i32],
+    weights: &[f32],
+    nextstates: &[u32],
+    tid2pdf: &[i32],
+    tid2phone: &[i32],
+    loglikes: &[f32],
+    decoder: Decoder,
+) -> Called
+    requires { ⌜ FrameLeft (graphTables (now offsets) (now ilabels) (now olabels) (now weights) (now nextstates) (now tid2pdf) (now tid2phone)) (lent (now tokens) (now sums) (now records) (now labels) (now gaps)) (now eps) (length (now queue)) (length (now scratch)) decoder ⌝ }
+    ensures { λ r. ⌜ FrameIs (graphTables (now (offsets .entry)) (now (ilabels .entry)) (now (olabels .entry)) (now (weights .entry)) (now (nextstates .entry)) (now (tid2pdf .entry)) (now (tid2phone .entry))) (lent (now (tokens .entry)) (now (sums .entry)) (now (records .entry)) (now (labels .entry)) (now (gaps .entry))) (lent (now (tokens .exit)) (now (sums .exit)) (now (records .exit)) (now (labels .exit)) (now (gaps .exit))) (now (queue .entry)) (now (queue .exit)) (now (scratch .entry)) (now (scratch .exit)) (now (eps .entry)) (now (loglikes .entry)) decoder r ⌝ }
+{
+    let t = decoder.graph.states as usize * 8;
+    let s = decoder.graph.states as usize * 4;
+    let r = decoder.cap as usize * 8;
+    let l = decoder.cap as usize * 2;
+    advance(
+        &mut tokens[..t],
+        &mut sums[..s],
+        &mut records[..r],
+        &mut labels[..l],
+        &mut gaps[..l],
+        queue,
+        scratch,
+        eps,
+        offsets,
+        ilabels,
+        olabels,
+        weights,
+        nextstates,
+        tid2pdf,
+        tid2phone,
+        loglikes,
+        decoder,
+    )
+}
+
+// A margin that is not kept is 0.
+fn kept_margin(keeps: bool, margin: f32) -> f32
+    ensures { λ r. ⌜ r ≡ cond keeps margin 0f ⌝ }
+{
+    if keeps { margin } else { 0.0 }
+}
+
 fn with_margin(d: Decoder, keeps: bool, margin: f32) -> Decoder
     ensures { λ r. ⌜ r ≡ withMargin d keeps margin ⌝ }
 {
@@ -534,7 +644,7 @@ fn with_margin(d: Decoder, keeps: bool, margin: f32) -> Decoder
         config,
         cap: d.cap,
         keeps,
-        margin,
+        margin: kept_margin(keeps, margin),
         side: d.side,
         frames: d.frames,
         seq: d.seq,
@@ -544,22 +654,16 @@ fn with_margin(d: Decoder, keeps: bool, margin: f32) -> Decoder
 
 // The keep margin, or none.
 pub fn set_keep(decoder: Decoder, keeps: bool, margin: f32) -> Called
-    ensures { λ r. ⌜ KeepIs decoder keeps margin r ⌝ }
+    ensures { λ r. ⌜ r ≡ keepOf decoder keeps margin ⌝ }
 {
     if checks::margin_wrong(keeps, margin) {
-        return Called::Refused(
-            decoder,
-            Refusal {
-                number: 6,
-                place: Place::Nowhere,
-            },
-        );
+        return Called::Refused(decoder, refused());
     }
     Called::Done(with_margin(decoder, keeps, margin))
 }
 
 pub fn frames_decoded(decoder: Decoder) -> u32
-    ensures { λ r. ⌜ FramesIs decoder r ⌝ }
+    ensures { λ r. ⌜ r ≡ decoder .frames ⌝ }
 {
     decoder.frames
 }
@@ -632,8 +736,8 @@ pub fn alternatives(
     ends: &mut [u32],
     costs: &mut [f32],
 ) -> Listed
-    requires { ⌜ AlternativesLeft (now tokens) (now sums) (now records) (now labels) (now finals) (length (now keys) ∷ length (now places) ∷ length (now own) ∷ []) (perHistoryOf (now «history_keys») (now «history_skips»)) decoder ⌝ }
-    ensures { λ r. ⌜ AlternativesIs (now (tokens .entry)) (now (sums .entry)) (now (records .entry)) (now (labels .entry)) (now (finals .entry)) decoder «use_final» max (outputs (now (words .entry)) (now (frames .entry)) (now (segments .entry)) (now (ends .entry)) (now (costs .entry))) (outputs (now (words .exit)) (now (frames .exit)) (now (segments .exit)) (now (ends .exit)) (now (costs .exit))) r ⌝ }
+    requires { ⌜ AlternativesLeft (now tokens) (now sums) (now records) (now labels) (now finals) (length (now keys) ∷ length (now places) ∷ length (now own) ∷ []) (length (now «history_keys») / 2 ∷ length (now «history_skips») / 2 ∷ []) decoder ⌝ }
+    ensures { λ r. ⌜ AlternativesIs (now (tokens .entry)) (now (sums .entry)) (now (records .entry)) (now (labels .entry)) (now (finals .entry)) decoder «use_final» max (scratch (now (keys .entry)) (now (places .entry)) (now (own .entry)) (now («history_keys» .entry)) (now («history_skips» .entry))) (scratch (now (keys .exit)) (now (places .exit)) (now (own .exit)) (now («history_keys» .exit)) (now («history_skips» .exit))) (outputs (now (words .entry)) (now (frames .entry)) (now (segments .entry)) (now (ends .entry)) (now (costs .entry))) (outputs (now (words .exit)) (now (frames .exit)) (now (segments .exit)) (now (ends .exit)) (now (costs .exit))) r ⌝ }
 {
     let finished = 1 - decoder.side;
     readings::alternatives(
@@ -695,8 +799,8 @@ pub fn reading_list(
     numbers: &mut [u64],
     costs: &mut [f32],
 ) -> ReadingList
-    requires { ⌜ ReadingsLeft (now tokens) (now sums) (now records) (now labels) (now gaps) (now finals) (length (now keys) ∷ length (now places) ∷ length (now own) ∷ length (now heads) ∷ length (now list) ∷ []) (perRecordOf (now lists) (now route) (now «history_keys») (now «history_skips»)) decoder ⌝ }
-    ensures { λ r. ⌜ ReadingsIs (now (tokens .entry)) (now (sums .entry)) (now (records .entry)) (now (labels .entry)) (now (gaps .entry)) (now (finals .entry)) decoder «use_final» listed max (entryPlaces (length (now («entry_hashes» .entry))) (length (now («entry_nexts» .entry))) (length (now («entry_sums» .entry)))) (keptPlaces (length (now («kept_hashes» .entry))) (length (now («kept_links» .entry))) (length (now («kept_sums» .entry))) (length (now (keys .entry))) (length (now (order .entry))) (length (now (list .entry)) - decoder .graph .states)) (listOutputs (now (words .entry)) (now (frames .entry)) (now (segments .entry)) (now (numbers .entry)) (now (costs .entry))) (listOutputs (now (words .exit)) (now (frames .exit)) (now (segments .exit)) (now (numbers .exit)) (now (costs .exit))) r ⌝ }
+    requires { ⌜ ReadingsLeft (now tokens) (now sums) (now records) (now labels) (now gaps) (now finals) (length (now keys) ∷ length (now places) ∷ length (now own) ∷ length (now heads) ∷ length (now list) ∷ []) (length (now lists) / 2 ∷ length (now route) ∷ length (now «history_keys») / 2 ∷ length (now «history_skips») / 2 ∷ []) (keptPlaces (length (now «kept_hashes»)) (length (now «kept_links»)) (length (now «kept_sums»))) (length (now keys) ∷ length (now order) ∷ (length (now list) - decoder .graph .states) ∷ []) decoder ⌝ }
+    ensures { λ r. ⌜ ReadingsIs (now (tokens .entry)) (now (sums .entry)) (now (records .entry)) (now (labels .entry)) (now (gaps .entry)) (now (finals .entry)) decoder «use_final» listed max (entryPlaces (length (now («entry_hashes» .entry))) (length (now («entry_nexts» .entry))) (length (now («entry_sums» .entry)))) (keptPlaces (length (now («kept_hashes» .entry))) (length (now («kept_links» .entry))) (length (now («kept_sums» .entry)))) (listScratch (now (keys .entry)) (now (places .entry)) (now (own .entry)) (now (heads .entry)) (now (list .entry)) (now (lists .entry)) (now (route .entry)) (now («history_keys» .entry)) (now («history_skips» .entry)) (now («entry_hashes» .entry)) (now («entry_nexts» .entry)) (now («entry_sums» .entry)) (now («kept_hashes» .entry)) (now («kept_links» .entry)) (now («kept_sums» .entry)) (now (order .entry))) (listScratch (now (keys .exit)) (now (places .exit)) (now (own .exit)) (now (heads .exit)) (now (list .exit)) (now (lists .exit)) (now (route .exit)) (now («history_keys» .exit)) (now («history_skips» .exit)) (now («entry_hashes» .exit)) (now («entry_nexts» .exit)) (now («entry_sums» .exit)) (now («kept_hashes» .exit)) (now («kept_links» .exit)) (now («kept_sums» .exit)) (now (order .exit))) (listOutputs (now (words .entry)) (now (frames .entry)) (now (segments .entry)) (now (numbers .entry)) (now (costs .entry))) (listOutputs (now (words .exit)) (now (frames .exit)) (now (segments .exit)) (now (numbers .exit)) (now (costs .exit))) r ⌝ }
 {
     let side = 1 - decoder.side;
     reading_list::readings(

@@ -1,7 +1,6 @@
 -- Of the finished table and its records.
 use native.Mathlib.Omega.{arith}
 use Rattle.decoder.specs.Reads.{histories-wide, alternatives-asks, alternatives-is}
-use Rattle.decoder.specs.Reads.{alternatives-asks, alternatives-is}
 use Rattle.decoder.proofs.alternatives.Statement.{statement}
 use Rattle.decoder.proofs.alternatives.Tie as tie
 
@@ -42,7 +41,7 @@ same-length-10 : tie.Need-same-length-10
 same-length-10 c = c .before .before .before .before .before .before .before .before .before .before .before .before .before .before .before .before .before .before .before .alternatives .kept .1 .1 .1 .1 .1 .1 .1 .1 .1 .1 .1 .1 .1 .1 .1 .1 .1 .1 .1 .1 .0
 
 returns : tie.Need-returns
-returns c = λ F. alternatives-is (F .left) _ (F .finals-are) _ _ _ _ _ (c .before .before .before .before .before .before .before .before .before .before .before .before .before .before .before .before .before .before .before .alternatives .ensures)
+returns c = record { answer = λ F. alternatives-is (F .left) _ (F .finals-are) _ _ _ _ _ (c .before .before .before .before .before .before .before .before .before .before .before .before .before .before .before .before .before .before .before .alternatives .ensures .0); work = c .before .before .before .before .before .before .before .before .before .before .before .before .before .before .before .before .before .before .before .alternatives .ensures .1 }
 
 pub alternatives-spec : {M : Type 1} → statement M
 alternatives-spec =

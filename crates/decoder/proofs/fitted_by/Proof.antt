@@ -1,6 +1,6 @@
 -- By the answer of the start.
 use mathlib.Core.Path.{sym, ap}
-use Rattle.decoder.specs.Fit.{fittedBy}
+use Rattle.decoder.specs.Contracts.{fittedBy}
 use borrow.Author.Needs.{needs}
 use Rattle.decoder.proofs.fitted_by.Statement.{statement}
 use Rattle.decoder.proofs.fitted_by.Tie as tie

@@ -1,7 +1,8 @@
 -- 6, or the new margin.
-use mathlib.Core.Path.{sym, _∙_}
+use mathlib.Core.Path.{sym, ap, _∙_}
 use borrow.Author.Tests.{not-true, not-false}
-use Rattle.decoder.specs.Reads.{keep-refused, keep-done}
+use Rattle.decoder.specs.declared.Called.the-variants.{Done, Refused}
+use Rattle.decoder.specs.Reads.{keep-refuses, keep-takes}
 use borrow.Author.Needs.{needs}
 use Rattle.decoder.proofs.set_keep.Statement.{statement}
 use Rattle.decoder.proofs.set_keep.Tie as tie
@@ -9,14 +10,19 @@ use Rattle.decoder.proofs.set_keep.Tie as tie
 margin-wrong-requires : tie.Need-margin-wrong-requires
 margin-wrong-requires c κs = search needs
 
+refused-requires : tie.Need-refused-requires
+refused-requires c κs = search needs
+
 returns : tie.Need-returns
-returns c = λ g s l T m eps places fs st R. keep-refused R (c .before .before .args .keeps) (c .before .before .args .margin) (not-true _ (sym (c .before .margin-wrong .ensures) ∙ c .if1 .taken))
+returns c = ap (Refused (c .before .before .before .args .decoder)) (c .refused .ensures) ∙ keep-refuses (c .before .before .before .args .decoder) (c .before .before .before .args .keeps) (c .before .before .before .args .margin) (not-true _ (sym (c .before .before .margin-wrong .ensures) ∙ c .before .if1 .taken))
 
 with-margin-requires : tie.Need-with-margin-requires
 with-margin-requires c κs = search needs
 
 returns-2 : tie.Need-returns-2
-returns-2 c = λ g s l T m eps places fs st R. keep-done R (c .before .before .before .args .keeps) (c .before .before .before .args .margin) (not-false _ (sym (c .before .before .margin-wrong .ensures) ∙ c .before .if1 .left)) _ (c .with-margin .ensures)
+returns-2 c = ap Done (c .with-margin .ensures) ∙ keep-takes (c .before .before .before .args .decoder) (c .before .before .before .args .keeps) (c .before .before .before .args .margin) (not-false _ (sym (c .before .before .margin-wrong .ensures) ∙ c .before .if1 .left))
 
 pub set-keep-spec : {M : Type 1} → statement M
-set-keep-spec = tie.close (tie.spec margin-wrong-requires returns with-margin-requires returns-2)
+set-keep-spec =
+    tie.close
+    (tie.spec margin-wrong-requires refused-requires returns with-margin-requires returns-2)

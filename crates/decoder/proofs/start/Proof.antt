@@ -4,8 +4,8 @@ use borrow.Author.Needs.{needs}
 use Rattle.decoder.proofs.start.Statement.{statement}
 use Rattle.decoder.proofs.start.Tie as tie
 
-begin-requires : tie.Need-begin-requires
-begin-requires c κs = record { g = c .before .before .before .before .before .before .before .before .before .before .before .before .before .before .before .pre .g; c = c .before .before .before .before .before .before .before .before .before .before .before .before .before .before .before .pre .c; l = c .before .before .before .before .before .before .before .before .before .before .before .before .before .before .before .pre .l; st = c .before .before .before .before .before .before .before .before .before .before .before .before .before .before .before .pre .st; is = begin-from (c .before .before .before .before .before .before .before .before .before .before .before .before .before .before .before .pre .is) }
+begin-within-requires : tie.Need-begin-within-requires
+begin-within-requires c κs = record { g = c .before .before .before .before .before .before .before .before .before .before .before .before .before .before .before .pre .g; c = c .before .before .before .before .before .before .before .before .before .before .before .before .before .before .before .pre .c; l = c .before .before .before .before .before .before .before .before .before .before .before .before .before .before .before .pre .l; st = c .before .before .before .before .before .before .before .before .before .before .before .before .before .before .before .pre .st; is = begin-from (c .before .before .before .before .before .before .before .before .before .before .before .before .before .before .before .pre .is) }
 
 same-length : tie.Need-same-length
 same-length c = search needs
@@ -26,13 +26,13 @@ same-length-6 : tie.Need-same-length-6
 same-length-6 c = search needs
 
 returns : tie.Need-returns
-returns c = λ g s l fs st R. c .before .before .before .before .before .before .before .before .before .before .before .begin .ensures g s l st (begin-from R)
+returns c = record { answer = λ g s l fs st R. c .before .before .before .before .before .before .before .before .before .before .before .begin-within .ensures .0 g s l st (begin-from R); lent = record { stores = record { tokens = c .before .before .before .before .before .before .before .before .before .before .before .begin-within .kept .0; sums = c .before .before .before .before .before .before .before .before .before .before .before .begin-within .kept .1 .0; records = c .before .before .before .before .before .before .before .before .before .before .before .begin-within .kept .1 .1 .0; labels = c .before .before .before .before .before .before .before .before .before .before .before .begin-within .kept .1 .1 .1 .0; gaps = c .before .before .before .before .before .before .before .before .before .before .before .begin-within .kept .1 .1 .1 .1 .0 }; behind = c .before .before .before .before .before .before .before .before .before .before .before .begin-within .ensures .1; queue = record { same-length = c .before .before .before .before .before .before .before .before .before .before .before .begin-within .kept .1 .1 .1 .1 .1 .0 } } }
 
 pub start-spec : {M : Type 1} → statement M
 start-spec =
     tie.close
     (tie.spec
-    begin-requires
+    begin-within-requires
     same-length
     same-length-2
     same-length-3
