@@ -48,10 +48,11 @@ static int refused(uint32_t number)
 int main(void)
 {
     struct hirqazhom_config config = {8, 1000, 0, 0.5f};
-    struct hirqazhom_answer a = hirqazhom_fit(
+    struct hirqazhom_fitting f = hirqazhom_fit(
         LEND(tokens), LEND(sums), LEND(records), LEND(labels), LEND(gaps), LEND(queue), LEND(scratch), LEND(keys), LEND(places), LEND(own), LEND(heads), LEND(list),
-        LEND(lists), LEND(route), LEND(history_keys), LEND(history_skips), LEND(eps), LEND(offsets), LEND(ilabels), LEND(olabels), LEND(weights), LEND(nextstates),
-        LEND(finals), LEND(tid2pdf), LEND(tid2phone), 0, SOUNDS, config);
+        LEND(lists), LEND(route), LEND(history_keys), LEND(history_skips), NULL, 0, NULL, 0, NULL, 0, NULL, 0, LEND(eps), LEND(offsets), LEND(ilabels), LEND(olabels),
+        LEND(weights), LEND(nextstates), LEND(finals), LEND(tid2pdf), LEND(tid2phone), 0, SOUNDS, config);
+    struct hirqazhom_answer a = {f.decoder, f.verdict};
     for (int i = 0; a.verdict.number == 0 && i < FRAMES; i++)
         a = hirqazhom_frame(
             LEND(tokens), LEND(sums), LEND(records), LEND(labels), LEND(gaps), LEND(queue), LEND(scratch), LEND(eps), LEND(offsets), LEND(ilabels), LEND(olabels),

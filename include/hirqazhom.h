@@ -46,7 +46,14 @@ struct hirqazhom_verdict {
     uint32_t arc;   /* counted within its state */
 };
 
-/* The decoder to go on with, refused or not. A fitting that is refused by 1 to 6 gives none. */
+/* Whether there is a decoder, and if so, the answer of its own start; else why not. */
+struct hirqazhom_fitting {
+    bool fitted;
+    struct hirqazhom_decoder decoder;
+    struct hirqazhom_verdict verdict;
+};
+
+/* The decoder to go on with, refused or not. */
 struct hirqazhom_answer {
     struct hirqazhom_decoder decoder;
     struct hirqazhom_verdict verdict;
@@ -92,12 +99,14 @@ struct hirqazhom_verdict hirqazhom_build(
     const int32_t *tid2pdf, size_t tid2pdf_len, const int32_t *tid2phone, size_t tid2phone_len, uint32_t start, uint32_t pdfs);
 
 /* A new decoder over the lent stores, without margin, after its start. */
-struct hirqazhom_answer hirqazhom_fit(
+struct hirqazhom_fitting hirqazhom_fit(
     uint32_t *tokens, size_t tokens_len, float *sums, size_t sums_len, uint32_t *records, size_t records_len, int32_t *labels, size_t labels_len,
     float *gaps, size_t gaps_len, uint32_t *queue, size_t queue_len, const float *scratch, size_t scratch_len, const uint64_t *keys, size_t keys_len,
     const uint32_t *places, size_t places_len, const uint32_t *own, size_t own_len, const uint32_t *heads, size_t heads_len,
     const uint32_t *list, size_t list_len, const uint32_t *lists, size_t lists_len, const uint32_t *route, size_t route_len,
-    const uint64_t *history_keys, size_t history_keys_len, const uint32_t *history_skips, size_t history_skips_len, uint8_t *eps, size_t eps_len,
+    const uint64_t *history_keys, size_t history_keys_len, const uint32_t *history_skips, size_t history_skips_len,
+    const uint64_t *kept_hashes, size_t kept_hashes_len, const uint32_t *kept_links, size_t kept_links_len, const float *kept_sums, size_t kept_sums_len,
+    const uint32_t *order, size_t order_len, uint8_t *eps, size_t eps_len,
     const uint32_t *offsets, size_t offsets_len, const int32_t *ilabels, size_t ilabels_len, const int32_t *olabels, size_t olabels_len,
     const float *weights, size_t weights_len, const uint32_t *nextstates, size_t nextstates_len, const float *finals, size_t finals_len,
     const int32_t *tid2pdf, size_t tid2pdf_len, const int32_t *tid2phone, size_t tid2phone_len, uint32_t start, uint32_t pdfs,

@@ -120,8 +120,8 @@ pub fn check_graph(g: &Raw) -> Result<(), No> {
         && g.offsets.windows(2).all(|p| p[0] <= p[1]);
     if n > 65_535
         || m > 1_048_576
-        || g.pdfs.len() > 65_536
-        || g.phones.len() > 65_536
+        || g.pdfs.len() > 65_537
+        || g.phones.len() > 65_537
         || g.offsets.len() != n + 1
         || g.olabels.len() != m
         || g.weights.len() != m

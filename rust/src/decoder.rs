@@ -87,14 +87,17 @@ impl Decoder {
     pub fn fit(graph: Arc<Graph>, config: Config, lengths: Lengths) -> Fitted {
         let mut s = Stores::new(lengths);
         let t = graph.tables();
+        // a reading list brings the store for its kept readings, and lengthens `keys` and `list` to it
+        let (hashes, links, sums, order): ([u64; 0], [u32; 0], [f32; 0], [u32; 0]) = ([], [], [], []);
         let a = call!(hirqazhom_fit []
             w s.tokens, w s.sums, w s.records, w s.labels, w s.gaps, w s.queue, r s.scratch, r s.keys, r s.places, r s.own, r s.heads, r s.list, r s.lists, r s.route,
-            r s.history_keys, r s.history_skips, w s.eps, r t.offsets, r t.ilabels, r t.olabels, r t.weights, r t.nextstates, r t.finals, r t.tid2pdf, r t.tid2phone,
+            r s.history_keys, r s.history_skips, r hashes, r links, r sums, r order, w s.eps, r t.offsets, r t.ilabels, r t.olabels, r t.weights, r t.nextstates, r t.finals, r t.tid2pdf, r t.tid2phone,
             v t.start, v t.pdfs, v config,);
+        let decoder = Decoder { graph, value: a.decoder, stores: s };
         match Refusal::of(a.verdict) {
-            Err(why) if why.number <= 6 => Fitted::Unfit(why),
-            Err(why) => Fitted::Refused(Decoder { graph, value: a.decoder, stores: s }, why),
-            Ok(()) => Fitted::Done(Decoder { graph, value: a.decoder, stores: s }),
+            Ok(()) => Fitted::Done(decoder),
+            Err(why) if a.fitted => Fitted::Refused(decoder, why),
+            Err(why) => Fitted::Unfit(why),
         }
     }
 

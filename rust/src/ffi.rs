@@ -45,6 +45,14 @@ pub struct Verdict {
 
 #[repr(C)]
 #[derive(Clone, Copy, Debug)]
+pub struct Fitting {
+    pub fitted: bool,
+    pub decoder: Value,
+    pub verdict: Verdict,
+}
+
+#[repr(C)]
+#[derive(Clone, Copy, Debug)]
 pub struct Answer {
     pub decoder: Value,
     pub verdict: Verdict,
@@ -145,6 +153,14 @@ extern "C" {
         history_keys_len: usize,
         history_skips: *const u32,
         history_skips_len: usize,
+        kept_hashes: *const u64,
+        kept_hashes_len: usize,
+        kept_links: *const u32,
+        kept_links_len: usize,
+        kept_sums: *const f32,
+        kept_sums_len: usize,
+        order: *const u32,
+        order_len: usize,
         eps: *mut u8,
         eps_len: usize,
         offsets: *const u32,
@@ -166,7 +182,7 @@ extern "C" {
         start: u32,
         pdfs: u32,
         config: Config,
-    ) -> Answer;
+    ) -> Fitting;
     pub fn hirqazhom_start(
         tokens: *mut u32,
         tokens_len: usize,

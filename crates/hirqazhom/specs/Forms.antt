@@ -3,9 +3,9 @@ use mathlib.Core.Path.{_≡_}
 use Prim.Native.Nat.{ℕ}
 use mathlib.Core.Bool.{true, false}
 use Rattle.model.specs.Basics.{0f}
-use Rattle.fst.specs.declared.Place.{Place}
-use Rattle.fst.specs.declared.Place.the-variants.{Nowhere, AtArc, AtState, AtFrames}
-use Rattle.fst.specs.declared.Refusal.{Refusal}
+use Rattle.refusals.specs.declared.Place.{Place}
+use Rattle.refusals.specs.declared.Place.the-variants.{Nowhere, AtArc, AtState, AtFrames}
+use Rattle.refusals.specs.declared.Refusal.{Refusal}
 use Rattle.fst.specs.declared.Built.{Built}
 use Rattle.fst.specs.declared.Built.the-variants.{Accepted, Refused as NotBuilt}
 use Rattle.decoder.specs.declared.Decoder.{Decoder}
@@ -28,6 +28,7 @@ use Rattle.silence_weighting.specs.declared.Trailing.the-variants.{Refused as T
 use Rattle.reading_search.specs.declared.Found.{Found}
 use Rattle.reading_search.specs.declared.Found.the-variants.{At, Nothing, Refused as SearchRefused}
 use Rattle.hirqazhom.specs.declared.Verdict.{Verdict}
+use Rattle.hirqazhom.specs.declared.Fitting.{Fitting}
 use Rattle.hirqazhom.specs.declared.Answer.{Answer}
 use Rattle.hirqazhom.specs.declared.Path.{Path}
 use Rattle.hirqazhom.specs.declared.Count.{Count}
@@ -70,10 +71,10 @@ noDecoder =
       used = 0;
     }
 
-abbrev pub fittedAnswer : Fitted → Answer
-fittedAnswer (Unfit f) = record { decoder = noDecoder; verdict = verdictOf f }
-fittedAnswer (Done d) = answerOf (CallDone d)
-fittedAnswer (Refused d f) = answerOf (CallRefused d f)
+abbrev pub fittedAnswer : Fitted → Fitting
+fittedAnswer (Unfit f) = record { fitted = false; decoder = noDecoder; verdict = verdictOf f }
+fittedAnswer (Done d) = record { fitted = true; decoder = d; verdict = accepted }
+fittedAnswer (Refused d f) = record { fitted = true; decoder = d; verdict = verdictOf f }
 
 abbrev pub builtVerdict : Built → Verdict
 builtVerdict (Accepted g) = accepted

@@ -1,2 +1,2 @@
--- What an answer is told by in C.
 pub mod Forms
+pub mod Lists

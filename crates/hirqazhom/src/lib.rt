@@ -1,7 +1,7 @@
 // The entry points for C: each is a call of `decoder`, `fst`, `silence_weighting` or `reading_search`, with the contract of that call. An enum has no form in C, so an
 // answer that is one is told by a struct of numbers, whose `number` is 0 or the refusal's. `include/hirqazhom.h` declares all of this for C.
 ghost use mathlib.Core.Path.{_≡_};
-ghost use Prim.Native.Nat.{_-_};
+ghost use Prim.Native.Nat.{_-_, _/_};
 ghost use mathlib.Core.List.{[], _∷_};
 ghost use lib.ListN.{length};
 ghost use Rattle.model.specs.Search.{Searched};
@@ -9,16 +9,16 @@ ghost use Rattle.stores.specs.Rep.{lent};
 ghost use Rattle.nonemitting.specs.Expand.{graphTables};
 ghost use Rattle.traceback.specs.Right.{parts};
 ghost use Rattle.readings.specs.Paths.{outputs};
+ghost use Rattle.readings.specs.Right.{scratch};
 ghost use Rattle.listing.specs.Places.{entryPlaces, keptPlaces};
 ghost use Rattle.reading_list.specs.Outputs.{outputs as listOutputs};
+ghost use Rattle.reading_list.specs.Scratch.{scratch as listScratch};
 ghost use Rattle.fst.specs.Answer.{graphOf, buildOf};
 ghost use Rattle.silence_weighting.specs.Answers.{NewRight, ActiveRight, TracebackRight, DeltasRight, TrailingRight};
 ghost use Rattle.reading_search.specs.Found.{foundOf, listing};
-ghost use Rattle.decoder.specs.Represents.{Left, FrameLeft};
-ghost use Rattle.decoder.specs.Fit.{perHistoryOf, perRecordOf, scratchOf, FitIs};
-ghost use Rattle.decoder.specs.Frame.{StartIs, FrameIs};
-ghost use Rattle.decoder.specs.Listed.{ReadingsLeft, ReadingsIs};
-ghost use Rattle.decoder.specs.Reads.{KeepIs, FramesIs, ActiveLeft, ActiveIs, RelativeLeft, RelativeCostIs, FinalsLeft, BestPathIs, AlternativesLeft, AlternativesIs};
+ghost use Rattle.decoder.specs.Represents.{Left};
+ghost use Rattle.decoder.specs.Contracts.{StartIs, FrameIs, keepOf, FitIs, FrameLeft, ActiveLeft, FinalsLeft, RelativeLeft, AlternativesLeft, ReadingsLeft, ActiveIs, RelativeCostIs, BestPathIs, AlternativesIs, ReadingsIs};
+ghost use Rattle.decoder.specs.Fit.{lengthsOf};
 ghost use Rattle.hirqazhom.specs.Forms.{FormOf, accepted, noDecoder, verdictOf, answerOf, fittedAnswer, builtVerdict, pathOf, listedCount, readingCount, silenceOf, weighedOf, trailingCount, foundIndex};
 use cutoff::Config;
 use decoder::Called;
@@ -26,11 +26,11 @@ use decoder::Decoder;
 use decoder::Fitted;
 use fst::Built;
 use fst::Graph;
-use fst::Place;
-use fst::Refusal;
 use reading_list::ReadingList;
 use reading_search::Found;
 use readings::Listed;
+use refusals::Place;
+use refusals::Refusal;
 use silence_weighting::Next;
 use silence_weighting::SilenceWeighting;
 use silence_weighting::Trailing;
@@ -46,7 +46,15 @@ pub struct Verdict {
     pub arc: u32,
 }
 
-// The decoder to go on with, refused or not; after a fitting that was refused by 1 to 6 it is none.
+// Whether there is a decoder, and if so, the answer of its own start; else why not.
+#[repr(C)]
+pub struct Fitting {
+    pub fitted: bool,
+    pub decoder: Decoder,
+    pub verdict: Verdict,
+}
+
+// The decoder to go on with, refused or not.
 #[repr(C)]
 pub struct Answer {
     pub decoder: Decoder,
@@ -175,16 +183,25 @@ fn no_decoder() -> Decoder
     }
 }
 
-fn fitted_answer(fitted: Fitted) -> Answer
+fn fitted_answer(fitted: Fitted) -> Fitting
     ensures { λ r. ⌜ r ≡ fittedAnswer fitted ⌝ }
 {
     match fitted {
-        Fitted::Unfit(why) => Answer {
+        Fitted::Unfit(why) => Fitting {
+            fitted: false,
             decoder: no_decoder(),
             verdict: verdict_of(why),
         },
-        Fitted::Done(d) => answer_of(Called::Done(d)),
-        Fitted::Refused(d, why) => answer_of(Called::Refused(d, why)),
+        Fitted::Done(d) => Fitting {
+            fitted: true,
+            decoder: d,
+            verdict: accepted_verdict(),
+        },
+        Fitted::Refused(d, why) => Fitting {
+            fitted: true,
+            decoder: d,
+            verdict: verdict_of(why),
+        },
     }
 }
 
@@ -384,6 +401,10 @@ pub extern "C" fn hirqazhom_fit(
     route: &[u32],
     history_keys: &[u64],
     history_skips: &[u32],
+    kept_hashes: &[u64],
+    kept_links: &[u32],
+    kept_sums: &[f32],
+    order: &[u32],
     eps: &mut [u8],
     offsets: &[u32],
     ilabels: &[i32],
@@ -396,8 +417,8 @@ pub extern "C" fn hirqazhom_fit(
     start: u32,
     pdfs: u32,
     config: Config,
-) -> Answer
-    ensures { λ r. ⌜ FormOf (FitIs (graphOf (now (offsets .entry)) (now (ilabels .entry)) (now (olabels .entry)) (now (weights .entry)) (now (nextstates .entry)) (now (finals .entry)) (now (tid2pdf .entry)) (now (tid2phone .entry)) start pdfs) (graphTables (now (offsets .entry)) (now (ilabels .entry)) (now (olabels .entry)) (now (weights .entry)) (now (nextstates .entry)) (now (tid2pdf .entry)) (now (tid2phone .entry))) (lent (now (tokens .entry)) (now (sums .entry)) (now (records .entry)) (now (labels .entry)) (now (gaps .entry))) (lent (now (tokens .exit)) (now (sums .exit)) (now (records .exit)) (now (labels .exit)) (now (gaps .exit))) (scratchOf (now (scratch .entry)) (now (keys .entry)) (now (places .entry)) (now (own .entry)) (now (heads .entry)) (now (list .entry))) (perRecordOf (now (lists .entry)) (now (route .entry)) (now («history_keys» .entry)) (now («history_skips» .entry))) (length (now (queue .entry))) (now (eps .entry)) (now (eps .exit)) config) fittedAnswer r ⌝ }
+) -> Fitting
+    ensures { λ r. ⌜ FormOf (FitIs (graphOf (now (offsets .entry)) (now (ilabels .entry)) (now (olabels .entry)) (now (weights .entry)) (now (nextstates .entry)) (now (finals .entry)) (now (tid2pdf .entry)) (now (tid2phone .entry)) start pdfs) (graphTables (now (offsets .entry)) (now (ilabels .entry)) (now (olabels .entry)) (now (weights .entry)) (now (nextstates .entry)) (now (tid2pdf .entry)) (now (tid2phone .entry))) (lent (now (tokens .entry)) (now (sums .entry)) (now (records .entry)) (now (labels .entry)) (now (gaps .entry))) (lent (now (tokens .exit)) (now (sums .exit)) (now (records .exit)) (now (labels .exit)) (now (gaps .exit))) (lengthsOf (lent (now (tokens .entry)) (now (sums .entry)) (now (records .entry)) (now (labels .entry)) (now (gaps .entry))) (now (eps .entry)) (now (scratch .entry)) (now (keys .entry)) (now (places .entry)) (now (own .entry)) (now (heads .entry)) (now (list .entry)) (now (lists .entry)) (now (route .entry)) (now («history_keys» .entry)) (now («history_skips» .entry)) (now («kept_hashes» .entry)) (now («kept_links» .entry)) (now («kept_sums» .entry)) (now (order .entry))) (now (queue .entry)) (now (queue .exit)) (now (eps .entry)) (now (eps .exit)) config) fittedAnswer r ⌝ }
 {
     fitted_answer(decoder::fit(
         tokens,
@@ -416,6 +437,10 @@ pub extern "C" fn hirqazhom_fit(
         route,
         history_keys,
         history_skips,
+        kept_hashes,
+        kept_links,
+        kept_sums,
+        order,
         eps,
         offsets,
         ilabels,
@@ -451,7 +476,7 @@ pub extern "C" fn hirqazhom_start(
     decoder: Decoder,
 ) -> Answer
     requires { ⌜ Left (graphTables (now offsets) (now ilabels) (now olabels) (now weights) (now nextstates) (now tid2pdf) (now tid2phone)) (lent (now tokens) (now sums) (now records) (now labels) (now gaps)) (now eps) (length (now queue)) decoder ⌝ }
-    ensures { λ r. ⌜ FormOf (StartIs (graphTables (now (offsets .entry)) (now (ilabels .entry)) (now (olabels .entry)) (now (weights .entry)) (now (nextstates .entry)) (now (tid2pdf .entry)) (now (tid2phone .entry))) (lent (now (tokens .entry)) (now (sums .entry)) (now (records .entry)) (now (labels .entry)) (now (gaps .entry))) (lent (now (tokens .exit)) (now (sums .exit)) (now (records .exit)) (now (labels .exit)) (now (gaps .exit))) (now (eps .entry)) (length (now (queue .entry))) decoder) answerOf r ⌝ }
+    ensures { λ r. ⌜ FormOf (StartIs (graphTables (now (offsets .entry)) (now (ilabels .entry)) (now (olabels .entry)) (now (weights .entry)) (now (nextstates .entry)) (now (tid2pdf .entry)) (now (tid2phone .entry))) (lent (now (tokens .entry)) (now (sums .entry)) (now (records .entry)) (now (labels .entry)) (now (gaps .entry))) (lent (now (tokens .exit)) (now (sums .exit)) (now (records .exit)) (now (labels .exit)) (now (gaps .exit))) (now (queue .entry)) (now (queue .exit)) (now (eps .entry)) decoder) answerOf r ⌝ }
 {
     answer_of(decoder::start(
         tokens,
@@ -494,7 +519,7 @@ pub extern "C" fn hirqazhom_frame(
     decoder: Decoder,
 ) -> Answer
     requires { ⌜ FrameLeft (graphTables (now offsets) (now ilabels) (now olabels) (now weights) (now nextstates) (now tid2pdf) (now tid2phone)) (lent (now tokens) (now sums) (now records) (now labels) (now gaps)) (now eps) (length (now queue)) (length (now scratch)) decoder ⌝ }
-    ensures { λ r. ⌜ FormOf (FrameIs (graphTables (now (offsets .entry)) (now (ilabels .entry)) (now (olabels .entry)) (now (weights .entry)) (now (nextstates .entry)) (now (tid2pdf .entry)) (now (tid2phone .entry))) (lent (now (tokens .entry)) (now (sums .entry)) (now (records .entry)) (now (labels .entry)) (now (gaps .entry))) (lent (now (tokens .exit)) (now (sums .exit)) (now (records .exit)) (now (labels .exit)) (now (gaps .exit))) (now (eps .entry)) (length (now (queue .entry))) (now (loglikes .entry)) decoder) answerOf r ⌝ }
+    ensures { λ r. ⌜ FormOf (FrameIs (graphTables (now (offsets .entry)) (now (ilabels .entry)) (now (olabels .entry)) (now (weights .entry)) (now (nextstates .entry)) (now (tid2pdf .entry)) (now (tid2phone .entry))) (lent (now (tokens .entry)) (now (sums .entry)) (now (records .entry)) (now (labels .entry)) (now (gaps .entry))) (lent (now (tokens .exit)) (now (sums .exit)) (now (records .exit)) (now (labels .exit)) (now (gaps .exit))) (now (queue .entry)) (now (queue .exit)) (now (scratch .entry)) (now (scratch .exit)) (now (eps .entry)) (now (loglikes .entry)) decoder) answerOf r ⌝ }
 {
     answer_of(decoder::frame(
         tokens,
@@ -520,7 +545,7 @@ pub extern "C" fn hirqazhom_frame(
 // The keep margin, or none.
 #[no_mangle]
 pub extern "C" fn hirqazhom_set_keep(decoder: Decoder, keeps: bool, margin: f32) -> Answer
-    ensures { λ r. ⌜ FormOf (KeepIs decoder keeps margin) answerOf r ⌝ }
+    ensures { λ r. ⌜ r ≡ answerOf (keepOf decoder keeps margin) ⌝ }
 {
     answer_of(decoder::set_keep(decoder, keeps, margin))
 }
@@ -528,7 +553,7 @@ pub extern "C" fn hirqazhom_set_keep(decoder: Decoder, keeps: bool, margin: f32)
 // Frames since the start.
 #[no_mangle]
 pub extern "C" fn hirqazhom_frames_decoded(decoder: Decoder) -> u32
-    ensures { λ r. ⌜ FramesIs decoder r ⌝ }
+    ensures { λ r. ⌜ r ≡ decoder .frames ⌝ }
 {
     decoder::frames_decoded(decoder)
 }
@@ -609,8 +634,8 @@ pub extern "C" fn hirqazhom_alternatives(
     ends: &mut [u32],
     costs: &mut [f32],
 ) -> Count
-    requires { ⌜ AlternativesLeft (now tokens) (now sums) (now records) (now labels) (now finals) (length (now keys) ∷ length (now places) ∷ length (now own) ∷ []) (perHistoryOf (now «history_keys») (now «history_skips»)) decoder ⌝ }
-    ensures { λ r. ⌜ FormOf (AlternativesIs (now (tokens .entry)) (now (sums .entry)) (now (records .entry)) (now (labels .entry)) (now (finals .entry)) decoder «use_final» max (outputs (now (words .entry)) (now (frames .entry)) (now (segments .entry)) (now (ends .entry)) (now (costs .entry))) (outputs (now (words .exit)) (now (frames .exit)) (now (segments .exit)) (now (ends .exit)) (now (costs .exit)))) listedCount r ⌝ }
+    requires { ⌜ AlternativesLeft (now tokens) (now sums) (now records) (now labels) (now finals) (length (now keys) ∷ length (now places) ∷ length (now own) ∷ []) (length (now «history_keys») / 2 ∷ length (now «history_skips») / 2 ∷ []) decoder ⌝ }
+    ensures { λ r. ⌜ FormOf (AlternativesIs (now (tokens .entry)) (now (sums .entry)) (now (records .entry)) (now (labels .entry)) (now (finals .entry)) decoder «use_final» max (scratch (now (keys .entry)) (now (places .entry)) (now (own .entry)) (now («history_keys» .entry)) (now («history_skips» .entry))) (scratch (now (keys .exit)) (now (places .exit)) (now (own .exit)) (now («history_keys» .exit)) (now («history_skips» .exit))) (outputs (now (words .entry)) (now (frames .entry)) (now (segments .entry)) (now (ends .entry)) (now (costs .entry))) (outputs (now (words .exit)) (now (frames .exit)) (now (segments .exit)) (now (ends .exit)) (now (costs .exit)))) listedCount r ⌝ }
 {
     listed_count(decoder::alternatives(
         tokens,
@@ -669,8 +694,8 @@ pub extern "C" fn hirqazhom_reading_list(
     numbers: &mut [u64],
     costs: &mut [f32],
 ) -> Count
-    requires { ⌜ ReadingsLeft (now tokens) (now sums) (now records) (now labels) (now gaps) (now finals) (length (now keys) ∷ length (now places) ∷ length (now own) ∷ length (now heads) ∷ length (now list) ∷ []) (perRecordOf (now lists) (now route) (now «history_keys») (now «history_skips»)) decoder ⌝ }
-    ensures { λ r. ⌜ FormOf (ReadingsIs (now (tokens .entry)) (now (sums .entry)) (now (records .entry)) (now (labels .entry)) (now (gaps .entry)) (now (finals .entry)) decoder «use_final» listed max (entryPlaces (length (now («entry_hashes» .entry))) (length (now («entry_nexts» .entry))) (length (now («entry_sums» .entry)))) (keptPlaces (length (now («kept_hashes» .entry))) (length (now («kept_links» .entry))) (length (now («kept_sums» .entry))) (length (now (keys .entry))) (length (now (order .entry))) (length (now (list .entry)) - decoder .graph .states)) (listOutputs (now (words .entry)) (now (frames .entry)) (now (segments .entry)) (now (numbers .entry)) (now (costs .entry))) (listOutputs (now (words .exit)) (now (frames .exit)) (now (segments .exit)) (now (numbers .exit)) (now (costs .exit)))) readingCount r ⌝ }
+    requires { ⌜ ReadingsLeft (now tokens) (now sums) (now records) (now labels) (now gaps) (now finals) (length (now keys) ∷ length (now places) ∷ length (now own) ∷ length (now heads) ∷ length (now list) ∷ []) (length (now lists) / 2 ∷ length (now route) ∷ length (now «history_keys») / 2 ∷ length (now «history_skips») / 2 ∷ []) (keptPlaces (length (now «kept_hashes»)) (length (now «kept_links»)) (length (now «kept_sums»))) (length (now keys) ∷ length (now order) ∷ (length (now list) - decoder .graph .states) ∷ []) decoder ⌝ }
+    ensures { λ r. ⌜ FormOf (ReadingsIs (now (tokens .entry)) (now (sums .entry)) (now (records .entry)) (now (labels .entry)) (now (gaps .entry)) (now (finals .entry)) decoder «use_final» listed max (entryPlaces (length (now («entry_hashes» .entry))) (length (now («entry_nexts» .entry))) (length (now («entry_sums» .entry)))) (keptPlaces (length (now («kept_hashes» .entry))) (length (now («kept_links» .entry))) (length (now («kept_sums» .entry)))) (listScratch (now (keys .entry)) (now (places .entry)) (now (own .entry)) (now (heads .entry)) (now (list .entry)) (now (lists .entry)) (now (route .entry)) (now («history_keys» .entry)) (now («history_skips» .entry)) (now («entry_hashes» .entry)) (now («entry_nexts» .entry)) (now («entry_sums» .entry)) (now («kept_hashes» .entry)) (now («kept_links» .entry)) (now («kept_sums» .entry)) (now (order .entry))) (listScratch (now (keys .exit)) (now (places .exit)) (now (own .exit)) (now (heads .exit)) (now (list .exit)) (now (lists .exit)) (now (route .exit)) (now («history_keys» .exit)) (now («history_skips» .exit)) (now («entry_hashes» .exit)) (now («entry_nexts» .exit)) (now («entry_sums» .exit)) (now («kept_hashes» .exit)) (now («kept_links» .exit)) (now («kept_sums» .exit)) (now (order .exit))) (listOutputs (now (words .entry)) (now (frames .entry)) (now (segments .entry)) (now (numbers .entry)) (now (costs .entry))) (listOutputs (now (words .exit)) (now (frames .exit)) (now (segments .exit)) (now (numbers .exit)) (now (costs .exit)))) readingCount r ⌝ }
 {
     reading_count(decoder::reading_list(
         tokens,

@@ -1,5 +1,5 @@
 -- By the answer.
-use mathlib.Core.Path.{sym, _∙_, ap}
+use mathlib.Core.Path.{ap}
 use Rattle.hirqazhom.specs.Forms.{fittedAnswer}
 use borrow.Author.Needs.{needs}
 use Rattle.hirqazhom.proofs.fitted_answer.Statement.{statement}
@@ -17,23 +17,23 @@ verdict-of-requires c κs = search needs
 enum-known-fitted-2 : tie.Need-enum-known-fitted-2
 enum-known-fitted-2 c = search needs
 
-answer-of-requires : tie.Need-answer-of-requires
-answer-of-requires c κs = search needs
+accepted-verdict-requires : tie.Need-accepted-verdict-requires
+accepted-verdict-requires c κs = search needs
 
 enum-known-fitted-3 : tie.Need-enum-known-fitted-3
 enum-known-fitted-3 c = search needs
 
-answer-of-requires-2 : tie.Need-answer-of-requires-2
-answer-of-requires-2 c κs = search needs
+verdict-of-requires-2 : tie.Need-verdict-of-requires-2
+verdict-of-requires-2 c κs = search needs
 
 returns : tie.Need-returns
 returns c = cc (ap fittedAnswer (c .before .before .before .fitted .given .1))
 
 returns-2 : tie.Need-returns-2
-returns-2 c = c .answer-of .ensures ∙ sym (ap fittedAnswer (c .before .before .fitted2 .given .1))
+returns-2 c = cc (ap fittedAnswer (c .before .before .fitted2 .given .1))
 
 returns-3 : tie.Need-returns-3
-returns-3 c = c .answer-of2 .ensures ∙ sym (ap fittedAnswer (c .before .before .fitted3 .given .1))
+returns-3 c = cc (ap fittedAnswer (c .before .before .fitted3 .given .1))
 
 pub fitted-answer-spec : {M : Type 1} → statement M
 fitted-answer-spec =
@@ -43,9 +43,9 @@ fitted-answer-spec =
     no-decoder-requires
     verdict-of-requires
     enum-known-fitted-2
-    answer-of-requires
+    accepted-verdict-requires
     enum-known-fitted-3
-    answer-of-requires-2
+    verdict-of-requires-2
     returns
     returns-2
     returns-3)
