@@ -1,50 +1,46 @@
 -- What the program holds between its calls of the decoder. Assumes nothing.
-use mathlib.Core.Path.{_≡_, refl, sym, subst}
+use mathlib.Core.Path.{_≡_, refl, sym, subst, _∙_}
 use Prim.Native.Nat.{ℕ}
-use mathlib.Core.List.{List, [], _∷_, List·Memᴰ·head as here}
-use lib.IntN.{ℤ}
+use mathlib.Core.List.{List}
 use lib.Ieee.{Float}
 use lib.ListN.{length}
-use Rattle.lists.specs.Lists.{_∈_}
 use Rattle.model.specs.Graph.{Graph}
 use Rattle.model.specs.Calls.{frameCall}
 use Rattle.cutoff.specs.declared.Config.{Config}
 use Rattle.stores.specs.Rep.{Lent}
 use Rattle.arcs.specs.State.{Tables}
+use Rattle.checks.specs.declared.Lengths.{Lengths}
 use Rattle.decoder.specs.declared.Decoder.{Decoder}
 use Rattle.decoder.specs.declared.Called.{Called}
 use Rattle.decoder.specs.declared.Called.the-variants.{Done}
 use Rattle.decoder.specs.declared.Fitted.{Fitted}
 use Rattle.decoder.specs.declared.Fitted.the-variants.{Done as FitDone}
-use Rattle.decoder.specs.Frame.{FrameIs}
-use Rattle.decoder.specs.Fit.{FitIs}
-use Rattle.decoder.specs.Held.{Held, HeldBy, HeldFitted, call-held, fit-held, held-fewer}
+use Rattle.decoder.specs.Contracts.{FrameIs, FitIs, FrameLeft}
+use Rattle.decoder.specs.Behaves.{valueOf}
+use Rattle.decoder.specs.Held.{Held, HeldFitted, held-asked, call-held, fit-held}
 
--- with a queue and a scratch that are as long
-held-as-long : (T : Tables) (m : Lent) (finals : List Float) (eps : List ℕ) (places places' k k' : ℕ) (d : Decoder) → places' ≡ places → k' ≡ k → Held T m finals eps places (k ∷ []) [] d → Held T m finals eps places' (k' ∷ []) [] d
-held-as-long T m finals eps places places' k k' d p q H = subst (λ (n : ℕ). Held T m finals eps n (k' ∷ []) [] d) (sym p) (subst (λ (n : ℕ). Held T m finals eps places (n ∷ []) [] d) (sym q) H)
+-- of the slices that the fitting has judged, frames need a scratch that is as long
+pub record Hearing (T : Tables) (m : Lent) (finals : List Float) (eps : List ℕ) (places scratch : ℕ) (d : Decoder) : Type 0 where
+  pub lengths : Lengths
+  pub held : Held T m finals eps places lengths d
+  pub as-long : lengths .scratch ≡ scratch
 
--- after a fitting: of all the slices, frames need the first scratch
-pub fit-done : (g : Graph) (T : Tables) (m m' : Lent) (k : ℕ) (more perRecord : List ℕ) (places places' : ℕ) (eps eps' : List ℕ) (c : Config) (f : Fitted) (d : Decoder) → FitIs g T m m' (k ∷ more) perRecord places eps eps' c f → f ≡ FitDone d → places' ≡ places
-    → Held T m' (g .finals) eps' places' (k ∷ []) [] d
-fit-done g T m m' k more perRecord places places' eps eps' c f d F e p =
-    held-as-long T m' (g .finals) eps' places places' k k d p refl (held-fewer m' (k ∷ []) [] first (λ j i. elim i [ ]) (subst (HeldFitted T m' (g .finals) eps' places (k ∷ more) perRecord) e (fit-held g T m m' (k ∷ more) perRecord places eps eps' c f F)))
-  where
-    first : (j : ℕ) → j ∈ (k ∷ []) → j ∈ (k ∷ more)
-    first j (here q) = here q
+-- after a fitting
+pub fit-hears : {g : Graph} {T : Tables} {m m' : Lent} {l : Lengths} {qs qs' eps eps' : List ℕ} {c : Config} {f : Fitted} {d : Decoder} → FitIs g T m m' l qs qs' eps eps' c f → f ≡ FitDone d → length qs' ≡ length qs → Hearing T m' (g .finals) eps' (length qs') (l .scratch) d
+fit-hears {g} {T} {m' = m'} {l} {qs} {eps' = eps'} {d = d} F e p = record { lengths = l; held = subst (λ (n : ℕ). Held T m' (g .finals) eps' n l d) (sym p) (subst (HeldFitted T m' (g .finals) eps' (length qs) l) e (fit-held F)); as-long = refl }
 
--- after a frame
-pub frame-done : (T : Tables) (m m' : Lent) (finals : List Float) (eps : List ℕ) (places places' k k' : ℕ) (ls : List Float) (x d : Decoder) (r : Called) → Held T m finals eps places (k ∷ []) [] x → FrameIs T m m' eps places ls x r → r ≡ Done d → places' ≡ places → k' ≡ k
-    → Held T m' finals eps places' (k' ∷ []) [] d
-frame-done T m m' finals eps places places' k k' ls x d r H F e p q =
-    held-as-long T m' finals eps places places' k k' d p q (subst (HeldBy T m' finals eps places (k ∷ []) []) e (call-held T finals eps places (k ∷ []) [] m m' (frameCall ls) x r F H))
+module _ {T : Tables} {m : Lent} {finals : List Float} {eps : List ℕ} {d : Decoder} where
+  -- it meets what a frame asks
+  pub frame-asked : {places scratch : ℕ} → Hearing T m finals eps places scratch d → FrameLeft T m eps places scratch d
+  frame-asked {places} H = subst (λ (n : ℕ). FrameLeft T m eps places n d) (H .as-long) (held-asked (H .held) .frame)
 
--- slices that are as long as others
-pub record AsLong (tk tk' : List ℕ) (sm sm' : List Float) (rs rs' : List ℕ) (ls ls' : List ℤ) (gs gs' : List Float) (qs qs' : List ℕ) (sc sc' : List Float) : Type 0 where
-  pub tokens : length tk' ≡ length tk
-  pub sums : length sm' ≡ length sm
-  pub records : length rs' ≡ length rs
-  pub labels : length ls' ≡ length ls
-  pub gaps : length gs' ≡ length gs
-  pub queue : length qs' ≡ length qs
-  pub scratch : length sc' ≡ length sc
+  -- and a frame hands it on
+  pub frame-hears : {m' : Lent} {qs qs' : List ℕ} {sc sc' ls : List Float} {r : Called} {next : Decoder} → FrameIs T m m' qs qs' sc sc' eps ls d r → r ≡ Done next → Hearing T m finals eps (length qs) (length sc) d → Hearing T m' finals eps (length qs') (length sc') next
+  frame-hears {m'} {qs} {ls = ls} {next = next} F e H =
+      let l = H .lengths in
+      let K = call-held (frameCall ls) refl (F .answer) (H .held) in
+      record {
+        lengths = l;
+        held = subst (λ (n : ℕ). Held T m' finals eps n l next) (sym (F .lent .queue .same-length)) (subst (λ (x : Called). Held T m' finals eps (length qs) l (valueOf x)) e K);
+        as-long = H .as-long ∙ sym (F .scratch .same-length);
+      }

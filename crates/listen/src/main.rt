@@ -4,12 +4,11 @@
 // The call is "dropped stitch, carrier two" on a busy floor. In every frame carrier three is as likely as carrier two, so that two paths tie to the last bit. The
 // rule for ties decides, each time and on every build the same: states are visited in ascending number, and of equal ranks the newest token wins.
 ghost use Prim.Native.Nat.{_≤_, _<_};
-ghost use mathlib.Core.List.{[], _∷_};
 ghost use lib.ListN.{length};
 ghost use Rattle.stores.specs.Rep.{lent};
 ghost use Rattle.nonemitting.specs.Expand.{graphTables};
-ghost use Rattle.decoder.specs.Reads.{FinalsLeft};
-ghost use Rattle.decoder.specs.Held.{Held};
+ghost use Rattle.decoder.specs.Contracts.{FinalsLeft};
+ghost use Rattle.listen.specs.Held.{Hearing};
 use cutoff::Config;
 use decoder::Called;
 use decoder::Decoder;
@@ -154,6 +153,11 @@ fn listen(
         &route,
         &history_keys,
         &history_skips,
+        // no readings are listed
+        &[],
+        &[],
+        &[],
+        &[],
         &mut eps,
         offsets,
         ilabels,
@@ -211,7 +215,7 @@ fn hear_frames(
     tid2phone: &[i32],
     fitted: Decoder,
 )
-    requires { ⌜ Held (graphTables (now offsets) (now ilabels) (now olabels) (now weights) (now nextstates) (now tid2pdf) (now tid2phone)) (lent (now tokens) (now sums) (now records) (now labels) (now gaps)) (now finals) (now eps) (length (now queue)) (length (now scratch) ∷ []) [] fitted ⌝ }
+    requires { ⌜ Hearing (graphTables (now offsets) (now ilabels) (now olabels) (now weights) (now nextstates) (now tid2pdf) (now tid2phone)) (lent (now tokens) (now sums) (now records) (now labels) (now gaps)) (now finals) (now eps) (length (now queue)) (length (now scratch)) fitted ⌝ }
 {
     let mut d = fitted;
     for i in 0..FRAMES {

@@ -1,4 +1,3 @@
 -- What the functions of the program ask of one another.
 pub mod Places
-pub mod Held
-pub mod Readings
+pub mod AsLong

@@ -2,29 +2,25 @@
 use mathlib.Core.Path.{_≡_, subst, sym}
 use Prim.Native.Nat.{ℕ, suc, _+_, _-_, _≤_, _<_}
 use native.Mathlib.Omega.{arith}
-use mathlib.Core.Bool.{Bool, true, false}
 use mathlib.Core.List.{List}
-use lib.ListN.{length}
 use Rattle.script.specs.declared.Record.{Record}
 use Rattle.script.specs.declared.NextRecord.{NextRecord}
+use Rattle.script.specs.Words.{wordCount}
+use Rattle.script.specs.Records.{recordAt, whole-within}
+use Rattle.replay_payloads.specs.Payloads.{Inside}
 use Rattle.replay.specs.declared.Stop.{Stop}
-use Rattle.replay.specs.declared.Turn.{Turn}
-use Rattle.replay.specs.declared.Ends.{Ends}
-
--- a record's payload lies within the script
-abbrev pub Inside : List ℕ → Record → Type 0
-Inside bs r = r .start + r .count ≤ length bs
-
--- there are n words from a place on, of so many, and places for them
-abbrev pub CanFill : (length at n places : ℕ) → Bool → Type 0
-CanFill k at n places true = (n ≤ places) × (at + n ≤ k)
-CanFill k at n places false = Unit {0}
+use Rattle.replay.specs.declared.graphs.Turn.{Turn}
 
 -- a record that starts at a place lies within so many words
 abbrev pub RecordFrom : (n at : ℕ) → NextRecord → Type 0
 RecordFrom n at (NextRecord.Whole r) = (r .start ≡ at + 2) × (r .start + r .count ≤ n)
 RecordFrom n at NextRecord.Short = Unit {0}
 RecordFrom n at NextRecord.End = Unit {0}
+
+pub record-from : (bs : List ℕ) (at : ℕ) (t : NextRecord) → t ≡ recordAt bs at → RecordFrom (wordCount bs) at t
+record-from bs at (NextRecord.Whole r) e = whole-within bs at r e
+record-from bs at NextRecord.Short e = tt
+record-from bs at NextRecord.End e = tt
 
 -- a run of calls ends at a record of the script, behind a place
 abbrev pub Behind : List ℕ → ℕ → Stop → Type 0
@@ -40,10 +36,10 @@ behind-from bs a b (Stop.NewFit r) l h = (let z = h .0 in omega arith, h .1)
 -- how many words are left there, and 1 more
 abbrev pub ahead : List ℕ → Stop → ℕ
 ahead bs Stop.End = 0
-ahead bs (Stop.NewGraph r) = suc (length bs - (r .start + r .count))
-ahead bs (Stop.NewFit r) = suc (length bs - (r .start + r .count))
+ahead bs (Stop.NewGraph r) = suc (wordCount bs - (r .start + r .count))
+ahead bs (Stop.NewFit r) = suc (wordCount bs - (r .start + r .count))
 
-pub fewer-ahead : (bs : List ℕ) (r : Record) (s : Stop) → Inside bs r → Behind bs (r .start + r .count) s → ahead bs s < suc (length bs - (r .start + r .count))
+pub fewer-ahead : (bs : List ℕ) (r : Record) (s : Stop) → Inside bs r → Behind bs (r .start + r .count) s → ahead bs s < suc (wordCount bs - (r .start + r .count))
 fewer-ahead bs r Stop.End l h = omega arith
 fewer-ahead bs r (Stop.NewGraph x) l h = let a = h .0 in let b = h .1 in omega arith
 fewer-ahead bs r (Stop.NewFit x) l h = let a = h .0 in let b = h .1 in omega arith
@@ -67,10 +63,3 @@ pub stops-behind : (bs : List ℕ) (from : ℕ) (r : Record) (s : Stop) → Stop
 stops-behind bs from r Stop.End e l i = tt
 stops-behind bs from r (Stop.NewGraph x) e l i = subst (λ (z : Record). (from < z .start + z .count) × Inside bs z) (sym e) (l, i)
 stops-behind bs from r (Stop.NewFit x) e l i = subst (λ (z : Record). (from < z .start + z .count) × Inside bs z) (sym e) (l, i)
-
--- within the places of alternatives
-abbrev pub EndsWithin : Ends → Type 0
-EndsWithin t = (t .words ≤ 16384) × (t .segments ≤ 16384)
-
-pub can-fill-true : (k at n places : ℕ) (b : Bool) → CanFill k at n places b → b ≡ true → (n ≤ places) × (at + n ≤ k)
-can-fill-true k at n places b h e = subst (CanFill k at n places) e h

@@ -1,12 +1,12 @@
 -- `listen::hear_frames` is safe and ends: between the frames it holds what the last one left.
 use mathlib.Core.Path.{refl, _∙_}
 use Prim.Native.Nat.{_-_, _≤_}
-use mathlib.Core.List.{[], _∷_, List·Memᴰ·head as here}
 use lib.ListN.{length}
-use Rattle.stores.specs.Rep.{lent}
+use Rattle.stores.specs.Lent.{LeftToProgram}
+use Rattle.stores.specs.Rep.{lent, Lens, lens-self, lens-then}
 use Rattle.nonemitting.specs.Expand.{graphTables}
-use Rattle.decoder.specs.Held.{Held, frame-left, finals-left}
-use Rattle.listen.specs.Held.{AsLong, frame-done}
+use Rattle.decoder.specs.Held.{held-asked}
+use Rattle.listen.specs.Held.{Hearing, frame-asked, frame-hears}
 use borrow.Author.Needs.{needs}
 use native.Mathlib.Omega.{arith}
 use Rattle.listen.proofs.hear_frames.Statement.{statement}
@@ -14,14 +14,14 @@ use Rattle.listen.proofs.hear_frames.Tie as tie
 
 abbrev Inv-loop : tie.InvT-loop
 Inv-loop tokens₀ sums₀ records₀ labels₀ gaps₀ queue₀ scratch₀ eps offsets ilabels olabels weights nextstates finals tid2pdf tid2phone d₀ i₀ tokens sums records labels gaps queue scratch d i =
-    (i ≤ 8) × Held (graphTables offsets ilabels olabels weights nextstates tid2pdf tid2phone) (lent tokens sums records labels gaps) finals eps (length queue) (length scratch ∷ []) [] d × AsLong tokens₀ tokens sums₀ sums records₀ records labels₀ labels gaps₀ gaps queue₀ queue scratch₀ scratch
+    (i ≤ 8) × Hearing (graphTables offsets ilabels olabels weights nextstates tid2pdf tid2phone) (lent tokens sums records labels gaps) finals eps (length queue) (length scratch) d × Lens (lent tokens₀ sums₀ records₀ labels₀ gaps₀) (lent tokens sums records labels gaps) × LeftToProgram queue₀ queue × LeftToProgram scratch₀ scratch
 
 abbrev μ-loop : tie.MeasureT-loop
 μ-loop tokens₀ sums₀ records₀ labels₀ gaps₀ queue₀ scratch₀ eps offsets ilabels olabels weights nextstates finals tid2pdf tid2phone d₀ i₀ tokens sums records labels gaps queue scratch d i =
     8 - i
 
 loop-holds : tie.Need-loop-holds Inv-loop μ-loop
-loop-holds c = (omega arith, c .before .before .before .before .before .before .before .before .before .before .before .pre, record { tokens = refl; sums = refl; records = refl; labels = refl; gaps = refl; queue = refl; scratch = refl })
+loop-holds c = (omega arith, c .before .before .before .before .before .before .before .before .before .before .before .pre, lens-self _, record { same-length = refl }, record { same-length = refl })
 
 frame-at-requires : tie.Need-frame-at-requires Inv-loop μ-loop
 frame-at-requires c κs = search needs
@@ -30,7 +30,7 @@ slice-aggregate-frame : tie.Need-slice-aggregate-frame Inv-loop μ-loop
 slice-aggregate-frame c = search needs
 
 frame-requires : tie.Need-frame-requires Inv-loop μ-loop
-frame-requires c κs = frame-left _ _ (here refl) (c .before .before .before .before .before .before .before .before .before .before .loop .inv .1)
+frame-requires c κs = frame-asked (c .before .before .before .before .before .before .before .before .before .before .loop .inv .1)
 
 enum-known-next : tie.Need-enum-known-next Inv-loop μ-loop
 enum-known-next c = search needs
@@ -57,10 +57,10 @@ same-length-5 : tie.Need-same-length-5 Inv-loop μ-loop
 same-length-5 c = c .before .before .before .before .before .before .before .before .before .before .before .before .before .before .before .before .before .frame .kept .1 .1 .1 .1 .0 ∙ c .before .before .before .before .before .before .before .before .before .before .before .before .before .before .before .before .before .before .before .before .before .before .before .before .before .before .before .before .loop .inv .2 .gaps
 
 same-length-6 : tie.Need-same-length-6 Inv-loop μ-loop
-same-length-6 c = c .before .before .before .before .before .before .before .before .before .before .before .before .before .before .before .before .before .frame .kept .1 .1 .1 .1 .1 .0 ∙ c .before .before .before .before .before .before .before .before .before .before .before .before .before .before .before .before .before .before .before .before .before .before .before .before .before .before .before .before .loop .inv .2 .queue
+same-length-6 c = c .before .before .before .before .before .before .before .before .before .before .before .before .before .before .before .before .before .frame .kept .1 .1 .1 .1 .1 .0 ∙ c .before .before .before .before .before .before .before .before .before .before .before .before .before .before .before .before .before .before .before .before .before .before .before .before .before .before .before .before .loop .inv .3 .same-length
 
 same-length-7 : tie.Need-same-length-7 Inv-loop μ-loop
-same-length-7 c = c .before .before .before .before .before .before .before .before .before .before .before .before .before .before .before .before .before .frame .kept .1 .1 .1 .1 .1 .1 .0 ∙ c .before .before .before .before .before .before .before .before .before .before .before .before .before .before .before .before .before .before .before .before .before .before .before .before .before .before .before .before .loop .inv .2 .scratch
+same-length-7 c = c .before .before .before .before .before .before .before .before .before .before .before .before .before .before .before .before .before .frame .kept .1 .1 .1 .1 .1 .1 .0 ∙ c .before .before .before .before .before .before .before .before .before .before .before .before .before .before .before .before .before .before .before .before .before .before .before .before .before .before .before .before .loop .inv .4 .same-length
 
 returns : tie.Need-returns Inv-loop μ-loop
 returns c = search needs
@@ -72,10 +72,13 @@ loop-less : tie.Need-loop-less Inv-loop μ-loop
 loop-less c = omega (arith, c .before .before .before .before .before .before .before .before .before .before .before .before .before .before .before .before .before .before .before .before .before .before .before .before .before .before .loop-test .taken)
 
 loop-again : tie.Need-loop-again Inv-loop μ-loop
-loop-again c = (omega (arith, c .before .before .before .before .before .before .before .before .before .before .before .before .before .before .before .before .before .before .before .before .before .before .before .before .before .before .loop-test .taken), frame-done _ _ _ _ _ _ _ _ _ _ _ _ _ (c .before .before .before .before .before .before .before .before .before .before .before .before .before .before .before .before .before .before .before .before .before .before .before .before .before .before .before .loop .inv .1) (c .before .before .before .before .before .before .before .before .before .before .before .before .before .before .before .before .frame .ensures) (c .before .next .given .1) (c .before .before .before .before .before .before .before .before .before .before .before .before .before .before .before .before .frame .kept .1 .1 .1 .1 .1 .0) (c .before .before .before .before .before .before .before .before .before .before .before .before .before .before .before .before .frame .kept .1 .1 .1 .1 .1 .1 .0), record { tokens = c .before .before .before .before .before .before .before .before .before .before .before .before .before .before .before .before .frame .kept .0 ∙ c .before .before .before .before .before .before .before .before .before .before .before .before .before .before .before .before .before .before .before .before .before .before .before .before .before .before .before .loop .inv .2 .tokens; sums = c .before .before .before .before .before .before .before .before .before .before .before .before .before .before .before .before .frame .kept .1 .0 ∙ c .before .before .before .before .before .before .before .before .before .before .before .before .before .before .before .before .before .before .before .before .before .before .before .before .before .before .before .loop .inv .2 .sums; records = c .before .before .before .before .before .before .before .before .before .before .before .before .before .before .before .before .frame .kept .1 .1 .0 ∙ c .before .before .before .before .before .before .before .before .before .before .before .before .before .before .before .before .before .before .before .before .before .before .before .before .before .before .before .loop .inv .2 .records; labels = c .before .before .before .before .before .before .before .before .before .before .before .before .before .before .before .before .frame .kept .1 .1 .1 .0 ∙ c .before .before .before .before .before .before .before .before .before .before .before .before .before .before .before .before .before .before .before .before .before .before .before .before .before .before .before .loop .inv .2 .labels; gaps = c .before .before .before .before .before .before .before .before .before .before .before .before .before .before .before .before .frame .kept .1 .1 .1 .1 .0 ∙ c .before .before .before .before .before .before .before .before .before .before .before .before .before .before .before .before .before .before .before .before .before .before .before .before .before .before .before .loop .inv .2 .gaps; queue = c .before .before .before .before .before .before .before .before .before .before .before .before .before .before .before .before .frame .kept .1 .1 .1 .1 .1 .0 ∙ c .before .before .before .before .before .before .before .before .before .before .before .before .before .before .before .before .before .before .before .before .before .before .before .before .before .before .before .loop .inv .2 .queue; scratch = c .before .before .before .before .before .before .before .before .before .before .before .before .before .before .before .before .frame .kept .1 .1 .1 .1 .1 .1 .0 ∙ c .before .before .before .before .before .before .before .before .before .before .before .before .before .before .before .before .before .before .before .before .before .before .before .before .before .before .before .loop .inv .2 .scratch })
+loop-again c =
+    let F = c .before .before .before .before .before .before .before .before .before .before .before .before .before .before .before .before .frame .ensures in
+    let I = c .before .before .before .before .before .before .before .before .before .before .before .before .before .before .before .before .before .before .before .before .before .before .before .before .before .before .before .loop .inv in
+    (omega (arith, c .before .before .before .before .before .before .before .before .before .before .before .before .before .before .before .before .before .before .before .before .before .before .before .before .before .before .loop-test .taken), frame-hears F (c .before .next .given .1) (I .1), lens-then (I .2) (F .lent .stores), record { same-length = F .lent .queue .same-length ∙ I .3 .same-length }, record { same-length = F .scratch .same-length ∙ I .4 .same-length })
 
 write-best-requires : tie.Need-write-best-requires Inv-loop μ-loop
-write-best-requires c κs = finals-left (c .before .before .before .before .before .loop .inv .1)
+write-best-requires c κs = held-asked (c .before .before .before .before .before .loop .inv .1 .held) .best
 
 same-length-8 : tie.Need-same-length-8 Inv-loop μ-loop
 same-length-8 c = c .before .before .before .before .before .before .loop .inv .2 .tokens
@@ -93,10 +96,10 @@ same-length-12 : tie.Need-same-length-12 Inv-loop μ-loop
 same-length-12 c = c .before .before .before .before .before .before .loop .inv .2 .gaps
 
 same-length-13 : tie.Need-same-length-13 Inv-loop μ-loop
-same-length-13 c = c .before .before .before .before .before .before .loop .inv .2 .queue
+same-length-13 c = c .before .before .before .before .before .before .loop .inv .3 .same-length
 
 same-length-14 : tie.Need-same-length-14 Inv-loop μ-loop
-same-length-14 c = c .before .before .before .before .before .before .loop .inv .2 .scratch
+same-length-14 c = c .before .before .before .before .before .before .loop .inv .4 .same-length
 
 returns-2 : tie.Need-returns-2 Inv-loop μ-loop
 returns-2 c = search needs

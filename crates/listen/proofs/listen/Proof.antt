@@ -1,5 +1,5 @@
 -- `listen::listen` is safe: the frames are given to a decoder as the fit leaves it.
-use Rattle.listen.specs.Held.{fit-done}
+use Rattle.listen.specs.Held.{fit-hears}
 use borrow.Author.Needs.{needs}
 use Rattle.listen.proofs.listen.Statement.{statement}
 use Rattle.listen.proofs.listen.Tie as tie
@@ -55,6 +55,18 @@ slice-aggregate-fit-16 c = search needs
 slice-aggregate-fit-17 : tie.Need-slice-aggregate-fit-17
 slice-aggregate-fit-17 c = search needs
 
+slice-aggregate-fit-18 : tie.Need-slice-aggregate-fit-18
+slice-aggregate-fit-18 c = search needs
+
+slice-aggregate-fit-19 : tie.Need-slice-aggregate-fit-19
+slice-aggregate-fit-19 c = search needs
+
+slice-aggregate-fit-20 : tie.Need-slice-aggregate-fit-20
+slice-aggregate-fit-20 c = search needs
+
+slice-aggregate-fit-21 : tie.Need-slice-aggregate-fit-21
+slice-aggregate-fit-21 c = search needs
+
 config-requires : tie.Need-config-requires
 config-requires c κs = search needs
 
@@ -101,7 +113,7 @@ slice-aggregate-hear-frames-8 : tie.Need-slice-aggregate-hear-frames-8
 slice-aggregate-hear-frames-8 c = search needs
 
 hear-frames-requires : tie.Need-hear-frames-requires
-hear-frames-requires c κs = fit-done _ _ _ _ _ _ _ _ _ _ _ _ _ _ (c .before .before .before .before .before .before .before .before .before .before .before .before .before .before .before .before .before .before .fit .ensures) (c .before .before .before .before .before .before .before .before .before .d .given .1) (c .before .before .before .before .before .before .before .before .before .before .before .before .before .before .before .before .before .before .fit .kept .1 .1 .1 .1 .1 .0)
+hear-frames-requires c κs = fit-hears (c .before .before .before .before .before .before .before .before .before .before .before .before .before .before .before .before .before .before .fit .ensures) (c .before .before .before .before .before .before .before .before .before .d .given .1) (c .before .before .before .before .before .before .before .before .before .before .before .before .before .before .before .before .before .before .fit .kept .1 .1 .1 .1 .1 .0)
 
 returns : tie.Need-returns
 returns c = search needs
@@ -133,6 +145,10 @@ listen-spec =
     slice-aggregate-fit-15
     slice-aggregate-fit-16
     slice-aggregate-fit-17
+    slice-aggregate-fit-18
+    slice-aggregate-fit-19
+    slice-aggregate-fit-20
+    slice-aggregate-fit-21
     config-requires
     fit-requires
     enum-known-why

@@ -1,6 +1,7 @@
 -- `replay::before_graph` is safe, ends and stops at a record of the script.
 use Prim.Native.Nat.{_-_}
-use lib.ListN.{length}
+use Rattle.replay.specs.Places.{record-from}
+use Rattle.script.specs.Words.{wordCount}
 use borrow.Author.Needs.{needs}
 use native.Mathlib.Omega.{arith}
 use Rattle.replay.proofs.before_graph.Statement.{statement}
@@ -12,7 +13,7 @@ Inv-loop calls at₀ at =
 
 abbrev μ-loop : tie.MeasureT-loop
 μ-loop calls at₀ at =
-    length calls - at
+    wordCount calls - at
 
 loop-holds : tie.Need-loop-holds Inv-loop μ-loop
 loop-holds c = tt
@@ -24,22 +25,22 @@ enum-known-r : tie.Need-enum-known-r Inv-loop μ-loop
 enum-known-r c = search needs
 
 add-at : tie.Need-add-at Inv-loop μ-loop
-add-at c = let h = rw (c .before .before .r .given .1) at (c .before .before .before .before .record-at .ensures) in omega arith
+add-at c = let h = rw (c .before .before .r .given .1) at (record-from _ _ _ (c .before .before .before .before .record-at .ensures)) in omega arith
 
 without-graph-requires : tie.Need-without-graph-requires Inv-loop μ-loop
-without-graph-requires c κs = (rw (c .before .before .r .given .1) at (c .before .before .before .before .record-at .ensures)) .1
+without-graph-requires c κs = (rw (c .before .before .r .given .1) at (record-from _ _ _ (c .before .before .before .before .record-at .ensures))) .1
 
 enum-told : tie.Need-enum-told Inv-loop μ-loop
 enum-told c = search needs
 
 returns : tie.Need-returns Inv-loop μ-loop
-returns c = let h = rw (c .before .before .before .before .before .r .given .1) at (c .before .before .before .before .before .before .before .record-at .ensures) in (omega (arith, h), h .1)
+returns c = let h = rw (c .before .before .before .before .before .r .given .1) at (record-from _ _ _ (c .before .before .before .before .before .before .before .record-at .ensures)) in (omega (arith, h), h .1)
 
 enum-told-2 : tie.Need-enum-told-2 Inv-loop μ-loop
 enum-told-2 c = search needs
 
 loop-less : tie.Need-loop-less Inv-loop μ-loop
-loop-less c = let h = rw (c .before .before .before .before .before .r .given .1) at (c .before .before .before .before .before .before .before .record-at .ensures) in omega (arith, h)
+loop-less c = let h = rw (c .before .before .before .before .before .r .given .1) at (record-from _ _ _ (c .before .before .before .before .before .before .before .record-at .ensures)) in omega (arith, h)
 
 loop-again : tie.Need-loop-again Inv-loop μ-loop
 loop-again c = tt

@@ -1,0 +1,2 @@
+-- What calls leave of the decoder.
+pub mod Held

@@ -1,0 +1,2 @@
+-- What the program holds between the decoder's calls.
+pub mod Held

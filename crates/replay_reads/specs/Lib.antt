@@ -1,0 +1,2 @@
+-- What the reads of the program ask of the decoder's stores.
+pub mod Reads
