@@ -4,8 +4,8 @@
     python3 docs/crates.py
 
 A line leads down from a crate to what it needs directly. A need that another need already has is left out
-(transitive reduction). A name in crates.txt that has no line of its own is a library of the kit: it is not drawn,
-and a crate that needs one is a program. The same crates.txt gives the same bytes.
+(transitive reduction). A name in crates.txt that has no line of its own is a library of the kit: it is not drawn.
+A crate with a src/main.rt is a program. The same crates.txt and programs give the same bytes.
 """
 from pathlib import Path
 
@@ -57,7 +57,7 @@ def read_needs(path):
 def reduced(needs):
     """What each crate needs that none of its other needs has; and the programs."""
     known = {n: [x for x in xs if x in needs] for n, xs in needs.items()}
-    programs = [n for n, xs in needs.items() if len(known[n]) < len(xs)]
+    programs = [n for n in needs if (ROOT / "crates" / n / "src" / "main.rt").is_file()]
     below = {}
 
     def reach(n):
