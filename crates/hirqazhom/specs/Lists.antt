@@ -46,12 +46,12 @@ use Rattle.decoder.specs.Contracts.{StartIs, FrameIs, keepOf, fittedBy, FitIs, 
 use Rattle.decoder.specs.Behaves.{answerOf as saidOf, valueOf, Behaves, startBehaves, frameBehaves, keepBehaves, bestBehaves, alternativesBehaves, readingsBehaves, relativeBehaves, activeBehaves, framesBehaves, none-yet, one-more}
 use Rattle.decoder.specs.Alike.{Stand, behaves-follows, runs-limited, first-follows, decoder-limited}
 use Rattle.decoder.specs.Demand3.{FittedAs, Fitting as Fit, settings, RunsFrom, calls}
-use Rattle.hirqazhom.specs.declared.Verdict.{Verdict}
-use Rattle.hirqazhom.specs.declared.Fitting.{Fitting}
-use Rattle.hirqazhom.specs.declared.Answer.{Answer}
-use Rattle.hirqazhom.specs.declared.Path.{Path}
-use Rattle.hirqazhom.specs.declared.Count.{Count}
-use Rattle.hirqazhom.specs.Forms.{FormOf, answerOf, fittedAnswer, verdictOf, pathOf, listedCount, readingCount}
+use Rattle.c_answers.specs.declared.Verdict.{Verdict}
+use Rattle.c_answers.specs.declared.Fitting.{Fitting}
+use Rattle.c_answers.specs.declared.Answer.{Answer}
+use Rattle.c_answers.specs.declared.Path.{Path}
+use Rattle.c_answers.specs.declared.Count.{Count}
+use Rattle.c_answers.specs.Forms.{FormOf, answerOf, fittedAnswer, verdictOf, pathOf, listedCount, readingCount}
 
 -- ---- what a caller reads
 

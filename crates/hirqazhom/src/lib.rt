@@ -1,5 +1,5 @@
-// The entry points for C: each is a call of `decoder`, `fst`, `silence_weighting` or `reading_search`, with the contract of that call. An enum has no form in C, so an
-// answer that is one is told by a struct of numbers, whose `number` is 0 or the refusal's. `include/hirqazhom.h` declares all of this for C.
+// The entry points for C: each is a call of `decoder`, `fst`, `silence_weighting` or `reading_search`, with the contract of that call, and its answer told by a struct of
+// `c_answers`. `python3 tools/declare.py` writes what C and Rust see of this file, comments included, into `include/hirqazhom.h` and `rust/src/ffi.rs`.
 ghost use mathlib.Core.Path.{_≡_};
 ghost use Prim.Native.Nat.{_-_, _/_};
 ghost use mathlib.Core.List.{[], _∷_};
@@ -19,340 +19,31 @@ ghost use Rattle.reading_search.specs.Found.{foundOf, listing};
 ghost use Rattle.decoder.specs.Represents.{Left};
 ghost use Rattle.decoder.specs.Contracts.{StartIs, FrameIs, keepOf, FitIs, FrameLeft, ActiveLeft, FinalsLeft, RelativeLeft, AlternativesLeft, ReadingsLeft, ActiveIs, RelativeCostIs, BestPathIs, AlternativesIs, ReadingsIs};
 ghost use Rattle.decoder.specs.Fit.{lengthsOf};
-ghost use Rattle.hirqazhom.specs.Forms.{FormOf, accepted, noDecoder, verdictOf, answerOf, fittedAnswer, builtVerdict, pathOf, listedCount, readingCount, silenceOf, weighedOf, trailingCount, foundIndex};
+ghost use Rattle.c_answers.specs.Forms.{FormOf, answerOf, fittedAnswer, builtVerdict, pathOf, listedCount, readingCount, silenceOf, weighedOf, trailingCount, foundIndex};
+use c_answers::Answer;
+use c_answers::Count;
+use c_answers::Fitting;
+use c_answers::Index;
+use c_answers::Path;
+use c_answers::Silence;
+use c_answers::Verdict;
+use c_answers::answer_of;
+use c_answers::built_verdict;
+use c_answers::fitted_answer;
+use c_answers::index_of;
+use c_answers::listed_count;
+use c_answers::path_of;
+use c_answers::reading_count;
+use c_answers::silence_of;
+use c_answers::trailing_count;
+use c_answers::weighed_silence;
 use cutoff::Config;
-use decoder::Called;
 use decoder::Decoder;
-use decoder::Fitted;
-use fst::Built;
-use fst::Graph;
-use reading_list::ReadingList;
-use reading_search::Found;
-use readings::Listed;
-use refusals::Place;
-use refusals::Refusal;
-use silence_weighting::Next;
 use silence_weighting::SilenceWeighting;
-use silence_weighting::Trailing;
-use silence_weighting::Weighed;
-use traceback::BestPath;
-
-// A refusal's number, or 0, and its place: 0 for none, 1 for an arc (`at` is its state), 2 for a state, 3 for the frames decoded.
-#[repr(C)]
-pub struct Verdict {
-    pub number: u32,
-    pub place: u32,
-    pub at: u32,
-    pub arc: u32,
-}
-
-// Whether there is a decoder, and if so, the answer of its own start; else why not.
-#[repr(C)]
-pub struct Fitting {
-    pub fitted: bool,
-    pub decoder: Decoder,
-    pub verdict: Verdict,
-}
-
-// The decoder to go on with, refused or not.
-#[repr(C)]
-pub struct Answer {
-    pub decoder: Decoder,
-    pub verdict: Verdict,
-}
-
-// A best path's counts and cost; `found` is false where no token counts.
-#[repr(C)]
-pub struct Path {
-    pub number: u32,
-    pub found: bool,
-    pub words: u32,
-    pub segments: u32,
-    pub cost: f32,
-}
-
-// How many paths, readings or frames.
-#[repr(C)]
-pub struct Count {
-    pub number: u32,
-    pub count: u64,
-}
-
-// The next silence state, which is none after a refusal, and how many differences were written.
-#[repr(C)]
-pub struct Silence {
-    pub state: SilenceWeighting,
-    pub number: u32,
-    pub count: u64,
-}
-
-// A reading's index; `found` is false where no reading has the word.
-#[repr(C)]
-pub struct Index {
-    pub number: u32,
-    pub found: bool,
-    pub index: u64,
-}
-
-// ---- the forms of the answers
-
-fn accepted_verdict() -> Verdict
-    ensures { λ r. ⌜ r ≡ accepted ⌝ }
-{
-    Verdict {
-        number: 0,
-        place: 0,
-        at: 0,
-        arc: 0,
-    }
-}
-
-fn verdict_of(why: Refusal) -> Verdict
-    ensures { λ r. ⌜ r ≡ verdictOf why ⌝ }
-{
-    let number = why.number;
-    let place = why.place;
-    match place {
-        Place::Nowhere => Verdict {
-            number,
-            place: 0,
-            at: 0,
-            arc: 0,
-        },
-        Place::AtArc(s, i) => Verdict {
-            number,
-            place: 1,
-            at: s,
-            arc: i,
-        },
-        Place::AtState(s) => Verdict {
-            number,
-            place: 2,
-            at: s,
-            arc: 0,
-        },
-        Place::AtFrames(n) => Verdict {
-            number,
-            place: 3,
-            at: n,
-            arc: 0,
-        },
-    }
-}
-
-fn answer_of(called: Called) -> Answer
-    ensures { λ r. ⌜ r ≡ answerOf called ⌝ }
-{
-    match called {
-        Called::Done(d) => Answer {
-            decoder: d,
-            verdict: accepted_verdict(),
-        },
-        Called::Refused(d, why) => Answer {
-            decoder: d,
-            verdict: verdict_of(why),
-        },
-    }
-}
-
-fn no_decoder() -> Decoder
-    ensures { λ r. ⌜ r ≡ noDecoder ⌝ }
-{
-    let graph = Graph {
-        states: 0,
-        arcs: 0,
-        start: 0,
-        pdfs: 0,
-    };
-    let config = Config {
-        beam: 0.0,
-        max_active: 0,
-        min_active: 0,
-        beam_delta: 0.0,
-    };
-    Decoder {
-        graph,
-        config,
-        cap: 0,
-        keeps: false,
-        margin: 0.0,
-        side: 0,
-        frames: 0,
-        seq: 0,
-        used: 0,
-    }
-}
-
-fn fitted_answer(fitted: Fitted) -> Fitting
-    ensures { λ r. ⌜ r ≡ fittedAnswer fitted ⌝ }
-{
-    match fitted {
-        Fitted::Unfit(why) => Fitting {
-            fitted: false,
-            decoder: no_decoder(),
-            verdict: verdict_of(why),
-        },
-        Fitted::Done(d) => Fitting {
-            fitted: true,
-            decoder: d,
-            verdict: accepted_verdict(),
-        },
-        Fitted::Refused(d, why) => Fitting {
-            fitted: true,
-            decoder: d,
-            verdict: verdict_of(why),
-        },
-    }
-}
-
-fn built_verdict(built: Built) -> Verdict
-    ensures { λ r. ⌜ r ≡ builtVerdict built ⌝ }
-{
-    match built {
-        Built::Accepted(_) => accepted_verdict(),
-        Built::Refused(why) => verdict_of(why),
-    }
-}
-
-fn path_of(best: BestPath) -> Path
-    ensures { λ r. ⌜ r ≡ pathOf best ⌝ }
-{
-    match best {
-        BestPath::Refused(n) => Path {
-            number: n,
-            found: false,
-            words: 0,
-            segments: 0,
-            cost: 0.0,
-        },
-        BestPath::Nobody => Path {
-            number: 0,
-            found: false,
-            words: 0,
-            segments: 0,
-            cost: 0.0,
-        },
-        BestPath::Found(size, cost) => Path {
-            number: 0,
-            found: true,
-            words: size.words,
-            segments: size.segments,
-            cost,
-        },
-    }
-}
-
-fn listed_count(listed: Listed) -> Count
-    ensures { λ r. ⌜ r ≡ listedCount listed ⌝ }
-{
-    match listed {
-        Listed::Refused(n) => Count {
-            number: n,
-            count: 0,
-        },
-        Listed::Paths(n) => Count {
-            number: 0,
-            count: n as u64,
-        },
-    }
-}
-
-fn reading_count(list: ReadingList) -> Count
-    ensures { λ r. ⌜ r ≡ readingCount list ⌝ }
-{
-    match list {
-        ReadingList::Refused(n) => Count {
-            number: n,
-            count: 0,
-        },
-        ReadingList::Readings(n) => Count {
-            number: 0,
-            count: n as u64,
-        },
-    }
-}
-
-fn no_silence(number: u32) -> Silence
-    ensures { λ r. ⌜ r ≡ silenceOf (Next.Refused number) ⌝ }
-{
-    let state = SilenceWeighting {
-        weight: 0.0,
-        subsampling: 0,
-        frames: 0,
-    };
-    Silence {
-        state,
-        number,
-        count: 0,
-    }
-}
-
-fn silence_of(next: Next) -> Silence
-    ensures { λ r. ⌜ r ≡ silenceOf next ⌝ }
-{
-    match next {
-        Next::Refused(n) => no_silence(n),
-        Next::State(state) => Silence {
-            state,
-            number: 0,
-            count: 0,
-        },
-    }
-}
-
-fn weighed_silence(w: Weighed) -> Silence
-    ensures { λ r. ⌜ r ≡ weighedOf w ⌝ }
-{
-    match w {
-        Weighed::Refused(n) => no_silence(n),
-        Weighed::Deltas { next, count } => Silence {
-            state: next,
-            number: 0,
-            count: count as u64,
-        },
-    }
-}
-
-fn trailing_count(t: Trailing) -> Count
-    ensures { λ r. ⌜ r ≡ trailingCount t ⌝ }
-{
-    match t {
-        Trailing::Refused(n) => Count {
-            number: n,
-            count: 0,
-        },
-        Trailing::Frames(n) => Count {
-            number: 0,
-            count: n,
-        },
-    }
-}
-
-fn index_of(found: Found) -> Index
-    ensures { λ r. ⌜ r ≡ foundIndex found ⌝ }
-{
-    match found {
-        Found::At(i) => Index {
-            number: 0,
-            found: true,
-            index: i as u64,
-        },
-        Found::Nothing => Index {
-            number: 0,
-            found: false,
-            index: 0,
-        },
-        Found::Refused(n) => Index {
-            number: n,
-            found: false,
-            index: 0,
-        },
-    }
-}
 
 // ---- the graph and the decoder
 
-// Whether a graph is accepted.
+// Whether a graph is accepted: refused by 1 to 5, with the arc or the state.
 #[no_mangle]
 pub extern "C" fn hirqazhom_build(
     offsets: &[u32],
@@ -382,7 +73,8 @@ pub extern "C" fn hirqazhom_build(
     ))
 }
 
-// A new decoder over the lent stores, without margin, after its start.
+// A new decoder over the lent stores, without margin, after its start. Slices that are only read and are no part of the graph are lent for their lengths.
+// Refused by 1 to 6: no decoder, and nothing is changed. By 13 or 14: a decoder without tokens.
 #[no_mangle]
 pub extern "C" fn hirqazhom_fit(
     tokens: &mut [u32],
@@ -456,7 +148,7 @@ pub extern "C" fn hirqazhom_fit(
     ))
 }
 
-// All tokens and records dropped, and zero frames.
+// Drops all tokens and records: zero frames, and the same margin. Refused by 13 or 14: so too, but without a token.
 #[no_mangle]
 pub extern "C" fn hirqazhom_start(
     tokens: &mut [u32],
@@ -497,7 +189,7 @@ pub extern "C" fn hirqazhom_start(
     ))
 }
 
-// One frame of log-likelihoods.
+// One frame, with a log-likelihood for each pdf. Refused by 8 to 10: nothing is changed. By 12 to 14: no later answer is.
 #[no_mangle]
 pub extern "C" fn hirqazhom_frame(
     tokens: &mut [u32],
@@ -542,7 +234,7 @@ pub extern "C" fn hirqazhom_frame(
     ))
 }
 
-// The keep margin, or none.
+// The keep margin, or none. Refused by 6: the same decoder.
 #[no_mangle]
 pub extern "C" fn hirqazhom_set_keep(decoder: Decoder, keeps: bool, margin: f32) -> Answer
     ensures { λ r. ⌜ r ≡ answerOf (keepOf decoder keeps margin) ⌝ }
@@ -558,7 +250,7 @@ pub extern "C" fn hirqazhom_frames_decoded(decoder: Decoder) -> u32
     decoder::frames_decoded(decoder)
 }
 
-// Active tokens.
+// How many tokens are active.
 #[no_mangle]
 pub extern "C" fn hirqazhom_num_active(tokens: &[u32], decoder: Decoder) -> u32
     requires { ⌜ ActiveLeft (now tokens) decoder ⌝ }
@@ -567,7 +259,7 @@ pub extern "C" fn hirqazhom_num_active(tokens: &[u32], decoder: Decoder) -> u32
     decoder::num_active(tokens, decoder)
 }
 
-// The least of cost and final weight, less the least cost.
+// The least sum of cost and final weight, less the least cost; infinite where no active state is final.
 #[no_mangle]
 pub extern "C" fn hirqazhom_final_relative_cost(
     tokens: &[u32],
@@ -581,7 +273,7 @@ pub extern "C" fn hirqazhom_final_relative_cost(
     decoder::final_relative_cost(tokens, sums, finals, decoder)
 }
 
-// The best path into lent words, frames and segments.
+// The best path: words, a frame for each, and segments of three numbers: phone, start, end. Refused by 11: nothing is written.
 #[no_mangle]
 pub extern "C" fn hirqazhom_best_path(
     tokens: &[u32],
@@ -612,7 +304,8 @@ pub extern "C" fn hirqazhom_best_path(
     ))
 }
 
-// The best path of each word list, at most `max`.
+// The best path of each word list, best first, at most `max`. The words of path i end before `ends[2i]`, its segments before `ends[2i + 1]`; it costs `costs[i]`.
+// Refused by 6: nothing is written. By 11: nothing but scratch.
 #[no_mangle]
 pub extern "C" fn hirqazhom_alternatives(
     tokens: &[u32],
@@ -659,7 +352,8 @@ pub extern "C" fn hirqazhom_alternatives(
     ))
 }
 
-// The reading list, the first `max` of it traced.
+// The reading list, the first `max` of it with frames and segments. Of reading i from `numbers[5i]` on: where its words and its segments end, how many kept histories
+// it takes, its token's phone and seq; from `costs[4i]` on: rank, cost, its token's cost and graph sum. Refused by 6: nothing is written. By 15 or 11: nothing but scratch.
 #[no_mangle]
 pub extern "C" fn hirqazhom_reading_list(
     tokens: &[u32],
@@ -734,7 +428,7 @@ pub extern "C" fn hirqazhom_reading_list(
 
 // ---- silence, and the search of a word
 
-// A silence state with no frames.
+// A silence state with no frames. Refused by 7.
 #[no_mangle]
 pub extern "C" fn hirqazhom_silence_new(weight: f32, subsampling: u32) -> Silence
     ensures { λ r. ⌜ FormOf (NewRight weight subsampling) silenceOf r ⌝ }
@@ -750,7 +444,7 @@ pub extern "C" fn hirqazhom_silence_active(state: SilenceWeighting, silence_phon
     state.active(silence_phones)
 }
 
-// Records what the best path's segments say of the decoded frames.
+// Records what the best path's segments say of the decoded frames, one place of `status` and `weights` each. Refused by 7 or 10: nothing is written.
 #[no_mangle]
 pub extern "C" fn hirqazhom_silence_traceback(
     state: SilenceWeighting,
@@ -775,7 +469,7 @@ pub extern "C" fn hirqazhom_silence_traceback(
     ))
 }
 
-// The differences of the frames' weights.
+// The differences of the frames' weights, and the frames. Refused by 7, 10 or 11: nothing is written.
 #[no_mangle]
 pub extern "C" fn hirqazhom_silence_deltas(
     state: SilenceWeighting,
@@ -798,7 +492,7 @@ pub extern "C" fn hirqazhom_silence_deltas(
     ))
 }
 
-// How many frames the silence at the end has.
+// How many frames the silence at the end has. Refused by 10.
 #[no_mangle]
 pub extern "C" fn hirqazhom_trailing_silence_frames(
     silence_phones: &[i32],
@@ -811,7 +505,7 @@ pub extern "C" fn hirqazhom_trailing_silence_frames(
     trailing_count(silence_weighting::trailing_silence_frames(silence_phones, phones, starts, ends))
 }
 
-// Some reading that has the word.
+// Some reading that has the word. The words of reading i end before `ends[i]`. Refused by 11 where ends fall or pass the words.
 #[no_mangle]
 pub extern "C" fn hirqazhom_find(word: i32, ends: &[u32], words: &[i32]) -> Index
     ensures { λ r. ⌜ FormOf (λ f. Searched word (listing (now (ends .entry)) (now (words .entry))) (foundOf f)) foundIndex r ⌝ }

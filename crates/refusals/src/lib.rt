@@ -65,13 +65,16 @@ pub const LISTS_FULL: u32 = 15;
 
 // ---- the limits
 
+// The states of a graph.
 pub const MAX_STATES: usize = 65_535;
 
+// The arcs of a graph.
 pub const MAX_ARCS: usize = 1_048_576;
 
 // The entries of a transition table: 65,536 ids, which count from 1, and entry 0.
 pub const MAX_TRANSITIONS: usize = 65_537;
 
+// The places for records.
 pub const MAX_RECORDS: usize = 1_048_576;
 
 // The paths or readings of one read.
@@ -83,8 +86,10 @@ pub const MAX_FRAMES: u32 = 65_536;
 // The decoder frames of a silence call.
 pub const MAX_SILENCE_FRAMES: usize = 65_536;
 
+// The segments of a silence call.
 pub const MAX_SEGMENTS: usize = 65_536;
 
+// The input frames in a decoder frame.
 pub const MAX_SUBSAMPLING: u32 = 16;
 
 // The ready and the first frame that a silence call names.

@@ -16,7 +16,7 @@ ghost use Rattle.silence_weighting.specs.Parts.{statusOf, toldTo, weight
 // The window begins this many frames before the list's end.
 const WINDOW: usize = 100;
 
-// The state. A call takes it and gives the next one back.
+// The state of the silence weights. A call takes it and gives the next one back.
 #[repr(C)]
 pub struct SilenceWeighting {
     // the weight of silence

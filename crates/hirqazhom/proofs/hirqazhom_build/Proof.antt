@@ -1,6 +1,6 @@
 -- By the verdict of what was built.
 use mathlib.Core.Path.{_∙_, ap}
-use Rattle.hirqazhom.specs.Forms.{builtVerdict}
+use Rattle.c_answers.specs.Forms.{builtVerdict}
 use borrow.Author.Needs.{needs}
 use Rattle.hirqazhom.proofs.hirqazhom_build.Statement.{statement}
 use Rattle.hirqazhom.proofs.hirqazhom_build.Tie as tie

@@ -1,6 +1,6 @@
 -- By the answer of the call.
 use mathlib.Core.Path.{ap, _∙_}
-use Rattle.hirqazhom.specs.Forms.{answerOf}
+use Rattle.c_answers.specs.Forms.{answerOf}
 use borrow.Author.Needs.{needs}
 use Rattle.hirqazhom.proofs.hirqazhom_set_keep.Statement.{statement}
 use Rattle.hirqazhom.proofs.hirqazhom_set_keep.Tie as tie
