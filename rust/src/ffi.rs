@@ -1,7 +1,130 @@
-//! What `include/hirqazhom.h` declares, for Rust.
+//! What the library has for C, as Rust sees it. Written by tools/declare.py from crates/hirqazhom/src/lib.rt: change it there.
+use std::mem::{offset_of, size_of};
 
+/// The refusals' numbers, the limits, and the places of a verdict.
+pub mod constants {
+    /// Of the graph builder: its counts, its offsets or the lengths of its slices.
+    pub const BAD_SHAPE: u32 = 1;
+
+    /// A start or an arc's target that is no state.
+    pub const NO_SUCH_STATE: u32 = 2;
+
+    /// An input label below 0, past a table, or with a pdf out of range.
+    pub const BAD_LABEL: u32 = 3;
+
+    /// A used label whose phone is below 1.
+    pub const BAD_PHONE: u32 = 4;
+
+    /// An arc weight or a final weight.
+    pub const BAD_WEIGHT: u32 = 5;
+
+    /// Settings or lent stores of a fitting, a keep margin, or the counts asked of a read.
+    pub const BAD_SETTING: u32 = 6;
+
+    /// Settings of the silence weighting.
+    pub const BAD_SILENCE_SETTING: u32 = 7;
+
+    /// A frame that is not as long as there are pdfs.
+    pub const BAD_FRAME_LENGTH: u32 = 8;
+
+    /// A log-likelihood that is not finite, or of magnitude 2^100 or more.
+    pub const BAD_LOGLIKE: u32 = 9;
+
+    /// A frame after the last, or a silence call that needs, names or brings too many.
+    pub const TOO_MANY_FRAMES: u32 = 10;
+
+    /// An output slice shorter than the whole answer, or a reading list brought to the search whose parts fall or overrun its words.
+    pub const TOO_SHORT: u32 = 11;
+
+    /// A total or a graph sum of magnitude 2^100 or more.
+    pub const SUM_TOO_LARGE: u32 = 12;
+
+    /// Live records fill the store.
+    pub const RECORDS_FULL: u32 = 13;
+
+    /// The epsilon queue is full.
+    pub const QUEUE_FULL: u32 = 14;
+
+    /// The lists below joins, or the kept readings, have more entries than their store.
+    pub const LISTS_FULL: u32 = 15;
+
+    /// The states of a graph.
+    pub const MAX_STATES: usize = 65_535;
+
+    /// The arcs of a graph.
+    pub const MAX_ARCS: usize = 1_048_576;
+
+    /// The entries of a transition table: 65,536 ids, which count from 1, and entry 0.
+    pub const MAX_TRANSITIONS: usize = 65_537;
+
+    /// The places for records.
+    pub const MAX_RECORDS: usize = 1_048_576;
+
+    /// The paths or readings of one read.
+    pub const MAX_LISTED: usize = 64;
+
+    /// The frames since a start.
+    pub const MAX_FRAMES: u32 = 65_536;
+
+    /// The decoder frames of a silence call.
+    pub const MAX_SILENCE_FRAMES: usize = 65_536;
+
+    /// The segments of a silence call.
+    pub const MAX_SEGMENTS: usize = 65_536;
+
+    /// The input frames in a decoder frame.
+    pub const MAX_SUBSAMPLING: u32 = 16;
+
+    /// The ready and the first frame that a silence call names.
+    pub const MAX_FRAME_NAMED: u64 = 4_294_967_296;
+
+    /// The start of a graph that has none.
+    pub const NO_STATE: u32 = 4_294_967_295;
+
+    /// A place of a refusal that has none.
+    pub const NOWHERE: u32 = 0;
+
+    /// The place is an arc.
+    pub const AT_ARC: u32 = 1;
+
+    /// The place is a state.
+    pub const AT_STATE: u32 = 2;
+
+    /// The place is the frames decoded.
+    pub const AT_FRAMES: u32 = 3;
+}
+
+/// Whether a call was refused, by which number and where.
 #[repr(C)]
-#[derive(Clone, Copy, Debug, Default)]
+#[derive(Clone, Copy, Debug, Default, PartialEq)]
+pub struct Verdict {
+    /// 0, or the refusal's
+    pub number: u32,
+    /// which of the four places
+    pub place: u32,
+    /// the state, or the frames decoded
+    pub at: u32,
+    /// counted within its state
+    pub arc: u32,
+}
+
+/// The settings: the Rust's `DecoderConfig`.
+#[repr(C)]
+#[derive(Clone, Copy, Debug, Default, PartialEq)]
+pub struct Config {
+    /// a token dearer than the best by more than this is not followed, unless a count says otherwise
+    pub beam: f32,
+    /// where more tokens than this are within the beam, the cutoff is the cost of this number, from 0 and cheapest first
+    pub max_active: u32,
+    /// where at most this many are, the cutoff rises to the cost of this number
+    pub min_active: u32,
+    /// what is added to the cutoff's distance from the best where a count made the cutoff
+    pub beam_delta: f32,
+}
+
+/// What is known of an accepted graph beside its slices: the counts of states and arcs, the start, and the count of pdfs.
+#[repr(C)]
+#[derive(Clone, Copy, Debug, Default, PartialEq)]
 pub struct GraphCounts {
     pub states: u32,
     pub arcs: u32,
@@ -9,19 +132,10 @@ pub struct GraphCounts {
     pub pdfs: u32,
 }
 
-/// The settings.
+/// What the decoder holds beside the lent stores: the graph's counts, the settings, the places for records, the keep margin if there is one, which table the
+/// next pass writes (the other one is the finished one), the frames decoded, the latest seq and the records in use.
 #[repr(C)]
 #[derive(Clone, Copy, Debug, Default, PartialEq)]
-pub struct Config {
-    pub beam: f32,
-    pub max_active: u32,
-    pub min_active: u32,
-    pub beam_delta: f32,
-}
-
-/// What the decoder holds beside the stores.
-#[repr(C)]
-#[derive(Clone, Copy, Debug, Default)]
 pub struct Value {
     pub graph: GraphCounts,
     pub config: Config,
@@ -34,32 +148,26 @@ pub struct Value {
     pub used: u32,
 }
 
+/// Whether there is a decoder, and if so, the answer of its own start; else why not, and a decoder of zeros.
 #[repr(C)]
-#[derive(Clone, Copy, Debug)]
-pub struct Verdict {
-    pub number: u32,
-    pub place: u32,
-    pub at: u32,
-    pub arc: u32,
-}
-
-#[repr(C)]
-#[derive(Clone, Copy, Debug)]
+#[derive(Clone, Copy, Debug, Default, PartialEq)]
 pub struct Fitting {
     pub fitted: bool,
     pub decoder: Value,
     pub verdict: Verdict,
 }
 
+/// The decoder to go on with, refused or not.
 #[repr(C)]
-#[derive(Clone, Copy, Debug)]
+#[derive(Clone, Copy, Debug, Default, PartialEq)]
 pub struct Answer {
     pub decoder: Value,
     pub verdict: Verdict,
 }
 
+/// A best path's counts and cost. `found` is false where no token counts; then, and after a refusal, the rest is 0.
 #[repr(C)]
-#[derive(Clone, Copy, Debug)]
+#[derive(Clone, Copy, Debug, Default, PartialEq)]
 pub struct Path {
     pub number: u32,
     pub found: bool,
@@ -68,38 +176,103 @@ pub struct Path {
     pub cost: f32,
 }
 
+/// How many paths, readings or frames; 0 after a refusal.
 #[repr(C)]
-#[derive(Clone, Copy, Debug)]
+#[derive(Clone, Copy, Debug, Default, PartialEq)]
 pub struct Count {
     pub number: u32,
     pub count: u64,
 }
 
+/// The state of the silence weights. A call takes it and gives the next one back.
 #[repr(C)]
-#[derive(Clone, Copy, Debug)]
+#[derive(Clone, Copy, Debug, Default, PartialEq)]
 pub struct SilenceState {
+    /// the weight of silence
     pub weight: f32,
+    /// input frames in a decoder frame
     pub subsampling: u32,
+    /// the length of the frame list
     pub frames: u32,
 }
 
+/// The next silence state, and how many differences were written. After a refusal all is 0: go on with the state that there was.
 #[repr(C)]
-#[derive(Clone, Copy, Debug)]
+#[derive(Clone, Copy, Debug, Default, PartialEq)]
 pub struct Silence {
     pub state: SilenceState,
     pub number: u32,
     pub count: u64,
 }
 
+/// A reading's index, from 0. `found` is false where no reading has the word.
 #[repr(C)]
-#[derive(Clone, Copy, Debug)]
+#[derive(Clone, Copy, Debug, Default, PartialEq)]
 pub struct Index {
     pub number: u32,
     pub found: bool,
     pub index: u64,
 }
 
+// Sizes and offsets are those of the library.
+const _: () = {
+    assert!(size_of::<Verdict>() == 16);
+    assert!(offset_of!(Verdict, number) == 0);
+    assert!(offset_of!(Verdict, place) == 4);
+    assert!(offset_of!(Verdict, at) == 8);
+    assert!(offset_of!(Verdict, arc) == 12);
+    assert!(size_of::<Config>() == 16);
+    assert!(offset_of!(Config, beam) == 0);
+    assert!(offset_of!(Config, max_active) == 4);
+    assert!(offset_of!(Config, min_active) == 8);
+    assert!(offset_of!(Config, beam_delta) == 12);
+    assert!(size_of::<GraphCounts>() == 16);
+    assert!(offset_of!(GraphCounts, states) == 0);
+    assert!(offset_of!(GraphCounts, arcs) == 4);
+    assert!(offset_of!(GraphCounts, start) == 8);
+    assert!(offset_of!(GraphCounts, pdfs) == 12);
+    assert!(size_of::<Value>() == 60);
+    assert!(offset_of!(Value, graph) == 0);
+    assert!(offset_of!(Value, config) == 16);
+    assert!(offset_of!(Value, cap) == 32);
+    assert!(offset_of!(Value, keeps) == 36);
+    assert!(offset_of!(Value, margin) == 40);
+    assert!(offset_of!(Value, side) == 44);
+    assert!(offset_of!(Value, frames) == 48);
+    assert!(offset_of!(Value, seq) == 52);
+    assert!(offset_of!(Value, used) == 56);
+    assert!(size_of::<Fitting>() == 80);
+    assert!(offset_of!(Fitting, fitted) == 0);
+    assert!(offset_of!(Fitting, decoder) == 4);
+    assert!(offset_of!(Fitting, verdict) == 64);
+    assert!(size_of::<Answer>() == 76);
+    assert!(offset_of!(Answer, decoder) == 0);
+    assert!(offset_of!(Answer, verdict) == 60);
+    assert!(size_of::<Path>() == 20);
+    assert!(offset_of!(Path, number) == 0);
+    assert!(offset_of!(Path, found) == 4);
+    assert!(offset_of!(Path, words) == 8);
+    assert!(offset_of!(Path, segments) == 12);
+    assert!(offset_of!(Path, cost) == 16);
+    assert!(size_of::<Count>() == 16);
+    assert!(offset_of!(Count, number) == 0);
+    assert!(offset_of!(Count, count) == 8);
+    assert!(size_of::<SilenceState>() == 12);
+    assert!(offset_of!(SilenceState, weight) == 0);
+    assert!(offset_of!(SilenceState, subsampling) == 4);
+    assert!(offset_of!(SilenceState, frames) == 8);
+    assert!(size_of::<Silence>() == 24);
+    assert!(offset_of!(Silence, state) == 0);
+    assert!(offset_of!(Silence, number) == 12);
+    assert!(offset_of!(Silence, count) == 16);
+    assert!(size_of::<Index>() == 16);
+    assert!(offset_of!(Index, number) == 0);
+    assert!(offset_of!(Index, found) == 4);
+    assert!(offset_of!(Index, index) == 8);
+};
+
 extern "C" {
+    /// Whether a graph is accepted: refused by 1 to 5, with the arc or the state.
     pub fn hirqazhom_build(
         offsets: *const u32,
         offsets_len: usize,
@@ -120,6 +293,8 @@ extern "C" {
         start: u32,
         pdfs: u32,
     ) -> Verdict;
+    /// A new decoder over the lent stores, without margin, after its start. Slices that are only read and are no part of the graph are lent for their lengths.
+    /// Refused by 1 to 6: no decoder, and nothing is changed. By 13 or 14: a decoder without tokens.
     pub fn hirqazhom_fit(
         tokens: *mut u32,
         tokens_len: usize,
@@ -183,6 +358,7 @@ extern "C" {
         pdfs: u32,
         config: Config,
     ) -> Fitting;
+    /// Drops all tokens and records: zero frames, and the same margin. Refused by 13 or 14: so too, but without a token.
     pub fn hirqazhom_start(
         tokens: *mut u32,
         tokens_len: usize,
@@ -214,6 +390,7 @@ extern "C" {
         tid2phone_len: usize,
         decoder: Value,
     ) -> Answer;
+    /// One frame, with a log-likelihood for each pdf. Refused by 8 to 10: nothing is changed. By 12 to 14: no later answer is.
     pub fn hirqazhom_frame(
         tokens: *mut u32,
         tokens_len: usize,
@@ -249,9 +426,13 @@ extern "C" {
         loglikes_len: usize,
         decoder: Value,
     ) -> Answer;
+    /// The keep margin, or none. Refused by 6: the same decoder.
     pub fn hirqazhom_set_keep(decoder: Value, keeps: bool, margin: f32) -> Answer;
+    /// Frames since the start.
     pub fn hirqazhom_frames_decoded(decoder: Value) -> u32;
+    /// How many tokens are active.
     pub fn hirqazhom_num_active(tokens: *const u32, tokens_len: usize, decoder: Value) -> u32;
+    /// The least sum of cost and final weight, less the least cost; infinite where no active state is final.
     pub fn hirqazhom_final_relative_cost(
         tokens: *const u32,
         tokens_len: usize,
@@ -261,6 +442,7 @@ extern "C" {
         finals_len: usize,
         decoder: Value,
     ) -> f32;
+    /// The best path: words, a frame for each, and segments of three numbers: phone, start, end. Refused by 11: nothing is written.
     pub fn hirqazhom_best_path(
         tokens: *const u32,
         tokens_len: usize,
@@ -281,6 +463,8 @@ extern "C" {
         segments: *mut u32,
         segments_len: usize,
     ) -> Path;
+    /// The best path of each word list, best first, at most `max`. The words of path i end before `ends[2i]`, its segments before `ends[2i + 1]`; it costs `costs[i]`.
+    /// Refused by 6: nothing is written. By 11: nothing but scratch.
     pub fn hirqazhom_alternatives(
         tokens: *const u32,
         tokens_len: usize,
@@ -316,6 +500,8 @@ extern "C" {
         costs: *mut f32,
         costs_len: usize,
     ) -> Count;
+    /// The reading list, the first `max` of it with frames and segments. Of reading i from `numbers[5i]` on: where its words and its segments end, how many kept histories
+    /// it takes, its token's phone and seq; from `costs[4i]` on: rank, cost, its token's cost and graph sum. Refused by 6: nothing is written. By 15 or 11: nothing but scratch.
     pub fn hirqazhom_reading_list(
         tokens: *const u32,
         tokens_len: usize,
@@ -376,8 +562,11 @@ extern "C" {
         costs: *mut f32,
         costs_len: usize,
     ) -> Count;
+    /// A silence state with no frames. Refused by 7.
     pub fn hirqazhom_silence_new(weight: f32, subsampling: u32) -> Silence;
+    /// Whether the weighting makes a difference.
     pub fn hirqazhom_silence_active(state: SilenceState, silence_phones: *const i32, silence_phones_len: usize) -> bool;
+    /// Records what the best path's segments say of the decoded frames, one place of `status` and `weights` each. Refused by 7 or 10: nothing is written.
     pub fn hirqazhom_silence_traceback(
         state: SilenceState,
         silence_phones: *const i32,
@@ -394,6 +583,7 @@ extern "C" {
         weights: *mut f32,
         weights_len: usize,
     ) -> Silence;
+    /// The differences of the frames' weights, and the frames. Refused by 7, 10 or 11: nothing is written.
     pub fn hirqazhom_silence_deltas(
         state: SilenceState,
         num_frames_ready: u64,
@@ -407,6 +597,7 @@ extern "C" {
         deltas: *mut f32,
         deltas_len: usize,
     ) -> Silence;
+    /// How many frames the silence at the end has. Refused by 10.
     pub fn hirqazhom_trailing_silence_frames(
         silence_phones: *const i32,
         silence_phones_len: usize,
@@ -417,5 +608,6 @@ extern "C" {
         ends: *const u32,
         ends_len: usize,
     ) -> Count;
+    /// Some reading that has the word. The words of reading i end before `ends[i]`. Refused by 11 where ends fall or pass the words.
     pub fn hirqazhom_find(word: i32, ends: *const u32, ends_len: usize, words: *const i32, words_len: usize) -> Index;
 }
