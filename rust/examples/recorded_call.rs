@@ -1,6 +1,5 @@
 //! Decodes the recorded call of the README. Two paths tie to the last bit; the same one is written each time.
-use hirqazhom::{Config, Decoder, Fitted, Graph, Lengths, Refusal, Tables};
-use std::sync::Arc;
+use hirqazhom::{Config, Decoder, Graph, Lengths, Refusal, Tables};
 
 /// The machine knits three courses in four frames.
 const COURSES: u32 = 3;
@@ -38,17 +37,14 @@ const FRAMES: [[f32; 4]; 8] = [
 ];
 
 fn main() -> Result<(), Refusal> {
-    let graph = Arc::new(graph()?);
+    let graph = graph()?;
     let config = Config { beam: 8.0, max_active: 1000, min_active: 0, beam_delta: 0.5 };
     let lengths = Lengths::of(&graph, 32);
-    let mut decoder = match Decoder::fit(graph, config, lengths) {
-        Fitted::Done(d) => d,
-        Fitted::Refused(_, why) | Fitted::Unfit(why) => return Err(why),
-    };
+    let mut decoder = Decoder::fit(graph.into(), config, lengths).started()?;
     for frame in &FRAMES {
         decoder.frame(frame)?;
     }
-    let Some(path) = decoder.best_path(true) else {
+    let Some(path) = decoder.best_path(true)? else {
         println!("nothing was heard");
         return Ok(());
     };

@@ -1,24 +1,32 @@
-//! Refusals: a number from 1 to 15, and a place.
+//! Refusals: a number and a place.
+use crate::constants::{AT_ARC, AT_FRAMES, AT_STATE};
 use crate::ffi::Verdict;
 use std::fmt;
 
 /// Where a refusal was met.
 #[derive(Clone, Copy, Debug, PartialEq, Eq)]
 pub enum Place {
+    /// It has no place.
     Nowhere,
-    /// An arc, counted within its state.
+    /// At an arc.
     Arc {
+        /// The arc's state.
         state: u32,
+        /// The arc, counted within its state from 0.
         arc: u32,
     },
+    /// At a state.
     State(u32),
-    /// The frames decoded.
+    /// After so many frames decoded.
     Frames(u32),
 }
 
+/// Why a call was refused. [`constants`](crate::constants) has the numbers by name.
 #[derive(Clone, Copy, Debug, PartialEq, Eq)]
 pub struct Refusal {
+    /// From 1 on, as in the manual's table.
     pub number: u32,
+    /// Where it was met.
     pub place: Place,
 }
 
@@ -26,9 +34,9 @@ impl Refusal {
     /// 0 is no refusal.
     pub(crate) fn of(v: Verdict) -> Result<(), Refusal> {
         let place = match v.place {
-            1 => Place::Arc { state: v.at, arc: v.arc },
-            2 => Place::State(v.at),
-            3 => Place::Frames(v.at),
+            AT_ARC => Place::Arc { state: v.at, arc: v.arc },
+            AT_STATE => Place::State(v.at),
+            AT_FRAMES => Place::Frames(v.at),
             _ => Place::Nowhere,
         };
         Refusal::unless_zero(v.number, place)
@@ -53,7 +61,7 @@ impl fmt::Display for Refusal {
             Place::Nowhere => Ok(()),
             Place::Arc { state, arc } => write!(f, " at arc {arc} of state {state}"),
             Place::State(s) => write!(f, " at state {s}"),
-            Place::Frames(n) => write!(f, " after {n} frames"),
+            Place::Frames(n) => write!(f, ", frames decoded: {n}"),
         }
     }
 }
