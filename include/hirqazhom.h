@@ -503,14 +503,13 @@ struct hirqazhom_graph {
     const int32_t *tid2phone;   /* transitions */
 };
 
-/* How much a decoder has places for: at least the graph's states, records, the epsilon queue, and for reading lists entries below joins and kept readings.
-   docs/MANUAL.md has sizes that suffice. */
+/* How much a decoder has places for; docs/MANUAL.md has sizes that suffice. */
 struct hirqazhom_sizes {
-    size_t states;
-    size_t records;
-    size_t queue;
-    size_t entries;
-    size_t kept;
+    size_t states;  /* as many as the graph has, or more */
+    size_t records; /* about twice the live ones that you expect, at most HIRQAZHOM_MAX_RECORDS */
+    size_t queue;   /* of epsilon arcs; none without such arcs */
+    size_t entries; /* of reading lists: below joins; none without a margin */
+    size_t kept;    /* of reading lists: kept readings; none without a margin */
 };
 
 /* How much output has places for: paths or readings, and over all of them words and segments. */
