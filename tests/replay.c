@@ -56,7 +56,7 @@ struct silence {
 };
 
 /* What stays between calls. There is a graph where `graph.offsets` is not null, and a decoder where `stores` is not, which is its block. */
-struct session {
+struct driver {
     size_t calls; /* done so far */
     struct answer answer;
     struct hirqazhom_graph graph;
@@ -183,7 +183,7 @@ static void put_verdict(struct answer *a, struct hirqazhom_verdict v)
 }
 
 /* Ends the program where a rule does not hold. */
-static void must(const struct session *s, bool holds, const char *rule)
+static void must(const struct driver *s, bool holds, const char *rule)
 {
     if (!holds) {
         printf("call %zu: not so: %s\n", s->calls, rule);
@@ -229,7 +229,7 @@ static struct hirqazhom_graph graph_of(struct slice head, const struct slice t[T
 }
 
 /* The library's own call judges, since a script may bring slices of lengths that a struct hirqazhom_graph cannot say. An accepted graph drops the decoder. */
-static bool graph_call(struct session *s, struct slice w)
+static bool graph_call(struct driver *s, struct slice w)
 {
     struct slice head, t[TABLES];
     if (!take(&w, 2, &head) || !take_tables(w, t))
@@ -285,7 +285,7 @@ static struct hirqazhom_sizes sizes_of(const struct hirqazhom_graph *g, struct s
 }
 
 /* Fits a second decoder; it becomes the first where it is fitted. */
-static bool fit_call(struct session *s, struct slice w)
+static bool fit_call(struct driver *s, struct slice w)
 {
     if (w.len < 4 || w.len > 9 || s->graph.offsets == NULL)
         return false;
@@ -347,7 +347,7 @@ static void put_reading(struct answer *a, struct hirqazhom_reading r)
 
 /* An output filled with the pattern. Its limits of words, frames and segments begin at word `first`. Words and frames are carved alike and then cut, since a script may
    set one lower than the other. */
-static struct lent lend_output(const struct session *s, struct slice w, size_t first, size_t paths)
+static struct lent lend_output(const struct driver *s, struct slice w, size_t first, size_t paths)
 {
     size_t words = limit(w, first, WORDS_MOST), frames = limit(w, first + 1, WORDS_MOST);
     struct hirqazhom_places n = {paths, words > frames ? words : frames, limit(w, first + 2, SEGMENTS_MOST)};
@@ -370,14 +370,14 @@ static bool untouched(const struct lent *l)
 }
 
 /* Puts the number. True where it is a refusal's, which has written nothing. */
-static bool refused(struct session *s, const struct lent *l, uint32_t number)
+static bool refused(struct driver *s, const struct lent *l, uint32_t number)
 {
     put(&s->answer, number);
     must(s, number == 0 || untouched(l), "a refused read leaves the output as it was");
     return number != 0;
 }
 
-static void best(struct session *s, bool use_final, struct lent *l)
+static void best(struct driver *s, bool use_final, struct lent *l)
 {
     struct hirqazhom_path p = hirqazhom_decoder_best_path(&s->decoder, use_final, &l->out);
     if (refused(s, l, p.number))
@@ -387,7 +387,7 @@ static void best(struct session *s, bool use_final, struct lent *l)
         put_path(&s->answer, hirqazhom_output_path(&l->out, p));
 }
 
-static void alternatives(struct session *s, bool use_final, size_t max, struct lent *l)
+static void alternatives(struct driver *s, bool use_final, size_t max, struct lent *l)
 {
     struct hirqazhom_count n = hirqazhom_decoder_alternatives(&s->decoder, use_final, max, &l->out);
     if (refused(s, l, n.number))
@@ -398,7 +398,7 @@ static void alternatives(struct session *s, bool use_final, size_t max, struct l
 }
 
 /* The paths of the traced readings, which are the first `max`. */
-static void put_traced(struct session *s, const struct hirqazhom_output *out, size_t count, size_t max)
+static void put_traced(struct driver *s, const struct hirqazhom_output *out, size_t count, size_t max)
 {
     put(&s->answer, (uint32_t)(count < max ? count : max));
     for (size_t i = 0; i < count; i++) {
@@ -410,7 +410,7 @@ static void put_traced(struct session *s, const struct hirqazhom_output *out, si
     }
 }
 
-static void readings(struct session *s, bool use_final, size_t listed, size_t max, struct lent *l)
+static void readings(struct driver *s, bool use_final, size_t listed, size_t max, struct lent *l)
 {
     struct hirqazhom_count n = hirqazhom_decoder_reading_list(&s->decoder, use_final, listed, max, &l->out);
     if (refused(s, l, n.number))
@@ -422,7 +422,7 @@ static void readings(struct session *s, bool use_final, size_t listed, size_t ma
 }
 
 /* A read's settings, then the limits of its output: paths, which a best path has not, words, frames and segments. */
-static bool read_call(struct session *s, uint32_t kind, struct slice w)
+static bool read_call(struct driver *s, uint32_t kind, struct slice w)
 {
     size_t settings = kind == BEST ? 1 : kind == ALTERNATIVES ? 2 : 3;
     size_t first = kind == BEST ? settings : settings + 1;
@@ -441,7 +441,7 @@ static bool read_call(struct session *s, uint32_t kind, struct slice w)
 
 /* ---- the other calls on a decoder */
 
-static bool frame_call(struct session *s, struct slice w)
+static bool frame_call(struct driver *s, struct slice w)
 {
     float *loglikes = (float *)copy_of(w);
     put_verdict(&s->answer, hirqazhom_decoder_frame(&s->decoder, loglikes, w.len));
@@ -450,7 +450,7 @@ static bool frame_call(struct session *s, struct slice w)
 }
 
 /* A 0, or a 1 and the margin. */
-static bool keep_call(struct session *s, struct slice w)
+static bool keep_call(struct driver *s, struct slice w)
 {
     if (w.len < 1 || w.len > 2 || w.at[0] != w.len - 1)
         return false;
@@ -460,7 +460,7 @@ static bool keep_call(struct session *s, struct slice w)
 }
 
 /* Calls that bring nothing. */
-static bool plain_call(struct session *s, uint32_t kind)
+static bool plain_call(struct driver *s, uint32_t kind)
 {
     struct answer *a = &s->answer;
     switch (kind) {
@@ -484,7 +484,7 @@ static bool plain_call(struct session *s, uint32_t kind)
     }
 }
 
-static bool decoder_call(struct session *s, uint32_t kind, struct slice w)
+static bool decoder_call(struct driver *s, uint32_t kind, struct slice w)
 {
     if (s->stores == NULL)
         return false;
@@ -504,7 +504,7 @@ static bool decoder_call(struct session *s, uint32_t kind, struct slice w)
 
 /* ---- search and silence, by the library's own calls */
 
-static bool search_call(struct session *s, struct slice w)
+static bool search_call(struct driver *s, struct slice w)
 {
     struct slice word, e, x;
     if (!take(&w, 1, &word) || !take_counted(&w, &e) || !take_counted(&w, &x) || w.len != 0)
@@ -530,7 +530,7 @@ static void free_silence(struct silence *q)
 }
 
 /* A refused one leaves the state that there is. */
-static bool silence_new_call(struct session *s, struct slice w)
+static bool silence_new_call(struct driver *s, struct slice w)
 {
     struct slice head, phones;
     if (!take(&w, 3, &head) || !take_counted(&w, &phones) || w.len != 0)
@@ -568,7 +568,7 @@ static void free_columns(struct columns *c)
     free(c->ends);
 }
 
-static bool traceback_call(struct session *s, struct slice w)
+static bool traceback_call(struct driver *s, struct slice w)
 {
     struct silence *q = &s->silence;
     struct slice decoded;
@@ -595,7 +595,7 @@ static void put_deltas(struct answer *a, size_t count, const uint64_t *frames, c
     }
 }
 
-static bool deltas_call(struct session *s, struct slice w)
+static bool deltas_call(struct driver *s, struct slice w)
 {
     struct silence *q = &s->silence;
     if (w.len < 4 || w.len > 5)
@@ -615,7 +615,7 @@ static bool deltas_call(struct session *s, struct slice w)
     return true;
 }
 
-static bool silence_call(struct session *s, uint32_t kind, struct slice w)
+static bool silence_call(struct driver *s, uint32_t kind, struct slice w)
 {
     if (s->silence.status == NULL)
         return false;
@@ -628,7 +628,7 @@ static bool silence_call(struct session *s, uint32_t kind, struct slice w)
     return true;
 }
 
-static bool trailing_call(struct session *s, struct slice w)
+static bool trailing_call(struct driver *s, struct slice w)
 {
     struct slice silence_phones;
     if (!take_counted(&w, &silence_phones) || w.len % 3 != 0)
@@ -646,7 +646,7 @@ static bool trailing_call(struct session *s, struct slice w)
 
 /* ---- the replay */
 
-static bool any_call(struct session *s, uint32_t kind, struct slice w)
+static bool any_call(struct driver *s, uint32_t kind, struct slice w)
 {
     switch (kind) {
     case GRAPH:
@@ -682,7 +682,7 @@ static struct slice one_hit(struct slice want, struct slice got, uint32_t cut[3]
 }
 
 /* Whether two answers are the same; else says where they differ first. */
-static bool same(const struct session *s, uint32_t kind, struct slice want, struct slice got)
+static bool same(const struct driver *s, uint32_t kind, struct slice want, struct slice got)
 {
     size_t i = 0;
     while (i < want.len && i < got.len && want.at[i] == got.at[i])
@@ -697,7 +697,7 @@ static bool same(const struct session *s, uint32_t kind, struct slice want, stru
 }
 
 /* Runs a call, and compares its answer. */
-static bool right(struct session *s, struct record call, struct record want)
+static bool right(struct driver *s, struct record call, struct record want)
 {
     if (call.kind != want.kind) {
         printf("call %zu: wanted kind %u, got %u\n", s->calls, want.kind, call.kind);
@@ -713,7 +713,7 @@ static bool right(struct session *s, struct record call, struct record want)
 }
 
 /* Until one of the files ends; both must. */
-static bool replay(struct session *s, struct slice script, struct slice answers)
+static bool replay(struct driver *s, struct slice script, struct slice answers)
 {
     for (; script.len > 0 && answers.len > 0; s->calls++) {
         struct record call, want;
@@ -757,7 +757,7 @@ int main(int argc, char **argv)
         printf("usage: replay SCRIPT ANSWERS\n");
         return 1;
     }
-    static struct session s; /* of zeros: nothing is there yet */
+    static struct driver s; /* of zeros: nothing is there yet */
     struct slice script = words_of(argv[1]), answers = words_of(argv[2]);
     bool done = replay(&s, script, answers);
     if (done)
