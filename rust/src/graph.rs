@@ -77,7 +77,7 @@ impl Graph {
         states + arcs
     }
 
-    /// Places of the queue that suffice whatever the margin (the manual's s + (s + 1)·a): more than any call has been seen to take.
+    /// Places of the queue that suffice whatever the margin (the manual's s + (s + 1)·a), which grows with the product of both.
     pub fn queue_places_with_margin(&self) -> usize {
         let (states, arcs) = self.epsilons();
         states + (states + 1) * arcs
