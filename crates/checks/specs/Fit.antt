@@ -15,7 +15,7 @@ use Rattle.model.specs.Graph.{Graph, states}
 use Rattle.model.specs.Passes.{fair, Places, atLeast, checkFit}
 use Rattle.cutoff.specs.declared.Config.{Config}
 use Rattle.cutoff.specs.Costs.{configOf}
-use Rattle.listing.specs.Places.{least, keptPlaces}
+use Rattle.places.specs.Places.{least, keptPlaces}
 use Rattle.checks.specs.declared.Lengths.{Lengths}
 
 -- ---- places

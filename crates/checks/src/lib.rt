@@ -6,11 +6,12 @@ ghost use mathlib.Core.List.{[], _∷_};
 ghost use Rattle.lists.specs.Lists.{all};
 ghost use Rattle.real32.specs.Small.{tame};
 ghost use Rattle.model.specs.Passes.{fair, fairMargin};
-ghost use Rattle.listing.specs.Places.{least};
+ghost use Rattle.places.specs.Places.{least};
 ghost use Rattle.checks.specs.Fit.{leastOf, recordPlaces, configWrong, storesWrong};
 ghost use Rattle.checks.specs.Frame.{frameNumber};
 ghost use Rattle.checks.specs.Margin.{asked};
 use cutoff::Config;
+use places::smaller;
 
 // Not negative, finite and below 2^100.
 fn is_fair(x: f32) -> bool
@@ -30,12 +31,6 @@ fn config_wrong(config: Config) -> bool
         return true;
     }
     config.max_active <= config.min_active
-}
-
-fn smaller(a: usize, b: usize) -> usize
-    ensures { λ r. ⌜ r ≡ least a b ⌝ }
-{
-    if b < a { b } else { a }
 }
 
 // The lengths of the slices that are lent to a fitting.
@@ -105,7 +100,7 @@ fn stores_wrong(l: Lengths, states: usize) -> bool
     if fewest_per_record(l) < records {
         return true;
     }
-    let kept = listing::kept_places(l.kept_hashes, l.kept_links, l.kept_sums);
+    let kept = places::kept_places(l.kept_hashes, l.kept_links, l.kept_sums);
     smaller(l.keys, smaller(l.order, l.list - states)) < kept
 }
 

@@ -24,7 +24,7 @@ use Rattle.decoder.specs.declared.Fitted.{Fitted}
 use Rattle.decoder.specs.Represents.{LimitsAre, limitsBy, limits-by, exact, Represents, CalledBy, calledDone, calledRefused}
 use Rattle.decoder.specs.Contracts.{Promised, fittedBy, FitIs, fitGraph, fitUnfit, fitCalled, LeftOf, GapsLeft}
 use Rattle.decoder.specs.Capacity.{cap-fixed}
-use Rattle.decoder.specs.Reads.{keep-is, frames-is}
+use Rattle.decoder.specs.Keep.{keep-is, frames-is}
 use Rattle.decoder.specs.Behaves.{answerOf, valueOf, Behaves, startBehaves, frameBehaves, keepBehaves, bestBehaves, alternativesBehaves, readingsBehaves, relativeBehaves, activeBehaves, framesBehaves, Runs, none-yet, one-more}
 use Rattle.decoder.specs.Held.{fitting-held}
 use Rattle.decoder.specs.Demand3.{FittedAs, Fitting, settings, calls, told, AnswersLimited, AnswersAlike}

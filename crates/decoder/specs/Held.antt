@@ -23,7 +23,7 @@ use Rattle.decoder.specs.declared.Fitted.the-variants.{Unfit, Done as Fi
 use Rattle.decoder.specs.Represents.{LimitsAre, limitsBy, limits-by, Left, CalledBy, calledDone, calledRefused}
 use Rattle.decoder.specs.Contracts.{Promised, fittedBy, FitIs, fitGraph, fitUnfit, fitCalled, LeftOf, Asked}
 use Rattle.decoder.specs.Capacity.{cap-fixed}
-use Rattle.decoder.specs.Reads.{keep-is}
+use Rattle.decoder.specs.Keep.{keep-is}
 use Rattle.decoder.specs.Behaves.{valueOf, Behaves, startBehaves, frameBehaves, keepBehaves, bestBehaves, alternativesBehaves, readingsBehaves, relativeBehaves, activeBehaves, framesBehaves, Runs, none-yet, one-more}
 use Rattle.decoder.specs.Demand3.{FittedAs, CallsAsked, Fitting}
 

@@ -5,8 +5,7 @@ pub mod Demand3
 pub mod Begin
 pub mod Frame
 pub mod Parts
-pub mod Reads
-pub mod Listed
+pub mod Keep
 pub mod Fit
 pub mod Capacity
 pub mod Held

@@ -1,23 +1,16 @@
-// The decoder over lent stores: the fitter, starts, frames, the keep margin, and the reads.
+// The decoder over lent stores: the fitter, starts, frames and the keep margin. The reads are in `decoder_reads` and `decoder_readings`, with contracts that are defined here.
 ghost use mathlib.Core.Path.{_≡_};
 ghost use mathlib.Core.Logic.{_⊎_};
 ghost use mathlib.Core.Bool.{cond};
 ghost use Prim.Native.Nat.{_*_, _-_, _/_, _≤_, _<_};
-ghost use mathlib.Core.List.{[], _∷_};
 ghost use lib.ListN.{length};
 ghost use Rattle.model.specs.Basics.{0f};
 ghost use Rattle.stores.specs.Rep.{lent};
 ghost use Rattle.arcs.specs.State.{tables};
 ghost use Rattle.nonemitting.specs.Expand.{graphTables};
-ghost use Rattle.traceback.specs.Right.{parts};
-ghost use Rattle.readings.specs.Paths.{outputs};
-ghost use Rattle.readings.specs.Right.{scratch};
-ghost use Rattle.listing.specs.Places.{entryPlaces, keptPlaces};
-ghost use Rattle.reading_list.specs.Outputs.{outputs as listOutputs};
-ghost use Rattle.reading_list.specs.Scratch.{scratch as listScratch};
 ghost use Rattle.fst.specs.Answer.{graphOf};
 ghost use Rattle.decoder.specs.Represents.{settingOf, Left};
-ghost use Rattle.decoder.specs.Contracts.{Behind, StartIs, FrameIs, withMargin, keepOf, unfit, fittedBy, FitIs, FrameLeft, ActiveLeft, FinalsLeft, RelativeLeft, AlternativesLeft, ReadingsLeft, ActiveIs, RelativeCostIs, BestPathIs, AlternativesIs, ReadingsIs};
+ghost use Rattle.decoder.specs.Contracts.{Behind, StartIs, FrameIs, withMargin, keepOf, unfit, fittedBy, FitIs, FrameLeft};
 ghost use Rattle.decoder.specs.Begin.{movedTo, emptiedOf, turnedOf, BothCleared, BeginAsks, BeginIs};
 ghost use Rattle.decoder.specs.Frame.{NewestIs, BackIs, RunGiven, RunIs};
 ghost use Rattle.decoder.specs.Parts.{AdvanceIs};
@@ -30,12 +23,9 @@ use cutoff::Config;
 use fst::Built;
 use fst::Graph;
 use fst::NO_STATE;
-use reading_list::ReadingList;
-use readings::Listed;
 use refusals::Place;
 use refusals::Refusal;
 use tokens::Token;
-use traceback::BestPath;
 
 // What the decoder holds beside the lent stores: the graph's counts, the settings, the places for records, the keep margin if there is one, which table the
 // next pass writes (the other one is the finished one), the frames decoded, the latest seq and the records in use.
@@ -660,185 +650,4 @@ pub fn set_keep(decoder: Decoder, keeps: bool, margin: f32) -> Called
         return Called::Refused(decoder, refused());
     }
     Called::Done(with_margin(decoder, keeps, margin))
-}
-
-pub fn frames_decoded(decoder: Decoder) -> u32
-    ensures { λ r. ⌜ r ≡ decoder .frames ⌝ }
-{
-    decoder.frames
-}
-
-pub fn num_active(tokens: &[u32], decoder: Decoder) -> u32
-    requires { ⌜ ActiveLeft (now tokens) decoder ⌝ }
-    ensures { λ r. ⌜ ActiveIs (now (tokens .entry)) decoder r ⌝ }
-{
-    traceback::num_active(tokens, decoder.graph.states, 1 - decoder.side)
-}
-
-pub fn final_relative_cost(tokens: &[u32], sums: &[f32], finals: &[f32], decoder: Decoder) -> f32
-    requires { ⌜ RelativeLeft (now tokens) (now sums) (now finals) decoder ⌝ }
-    ensures { λ r. ⌜ RelativeCostIs (now (tokens .entry)) (now (sums .entry)) (now (finals .entry)) decoder r ⌝ }
-{
-    traceback::final_relative_cost(tokens, sums, finals, decoder.graph.states, 1 - decoder.side)
-}
-
-// The best path into lent words, frames and segments, three numbers for each.
-pub fn best_path(
-    tokens: &[u32],
-    sums: &[f32],
-    records: &[u32],
-    labels: &[i32],
-    finals: &[f32],
-    decoder: Decoder,
-    use_final: bool,
-    words: &mut [i32],
-    frames: &mut [u32],
-    segments: &mut [u32],
-) -> BestPath
-    requires { ⌜ FinalsLeft (now tokens) (now sums) (now records) (now labels) (now finals) decoder ⌝ }
-    ensures { λ r. ⌜ BestPathIs (now (tokens .entry)) (now (sums .entry)) (now (records .entry)) (now (labels .entry)) (now (finals .entry)) decoder «use_final» (parts (now (words .entry)) (now (frames .entry)) (now (segments .entry))) (parts (now (words .exit)) (now (frames .exit)) (now (segments .exit))) r ⌝ }
-{
-    traceback::best_path(
-        tokens,
-        sums,
-        finals,
-        records,
-        labels,
-        decoder.graph.states,
-        1 - decoder.side,
-        decoder.used,
-        decoder.frames,
-        use_final,
-        words,
-        frames,
-        segments,
-    )
-}
-
-// The best path of each word list, at most `max`, into lent words, frames, segments, two ends and a cost for each path.
-pub fn alternatives(
-    tokens: &[u32],
-    sums: &[f32],
-    records: &[u32],
-    labels: &[i32],
-    finals: &[f32],
-    decoder: Decoder,
-    use_final: bool,
-    max: usize,
-    keys: &mut [u64],
-    places: &mut [u32],
-    own: &mut [u32],
-    history_keys: &mut [u64],
-    history_skips: &mut [u32],
-    words: &mut [i32],
-    frames: &mut [u32],
-    segments: &mut [u32],
-    ends: &mut [u32],
-    costs: &mut [f32],
-) -> Listed
-    requires { ⌜ AlternativesLeft (now tokens) (now sums) (now records) (now labels) (now finals) (length (now keys) ∷ length (now places) ∷ length (now own) ∷ []) (length (now «history_keys») / 2 ∷ length (now «history_skips») / 2 ∷ []) decoder ⌝ }
-    ensures { λ r. ⌜ AlternativesIs (now (tokens .entry)) (now (sums .entry)) (now (records .entry)) (now (labels .entry)) (now (finals .entry)) decoder «use_final» max (scratch (now (keys .entry)) (now (places .entry)) (now (own .entry)) (now («history_keys» .entry)) (now («history_skips» .entry))) (scratch (now (keys .exit)) (now (places .exit)) (now (own .exit)) (now («history_keys» .exit)) (now («history_skips» .exit))) (outputs (now (words .entry)) (now (frames .entry)) (now (segments .entry)) (now (ends .entry)) (now (costs .entry))) (outputs (now (words .exit)) (now (frames .exit)) (now (segments .exit)) (now (ends .exit)) (now (costs .exit))) r ⌝ }
-{
-    let finished = 1 - decoder.side;
-    readings::alternatives(
-        tokens,
-        sums,
-        finals,
-        records,
-        labels,
-        decoder.graph.states,
-        finished,
-        decoder.used,
-        decoder.frames,
-        use_final,
-        max,
-        keys,
-        places,
-        own,
-        history_keys,
-        history_skips,
-        words,
-        frames,
-        segments,
-        ends,
-        costs,
-    )
-}
-
-// The reading list, the first `max` of it traced, into lent words, frames, segments, five numbers and four costs for each reading. The lists below joins and the kept readings are lent too.
-pub fn reading_list(
-    tokens: &[u32],
-    sums: &[f32],
-    records: &[u32],
-    labels: &[i32],
-    gaps: &[f32],
-    finals: &[f32],
-    decoder: Decoder,
-    use_final: bool,
-    listed: usize,
-    max: usize,
-    keys: &mut [u64],
-    places: &mut [u32],
-    own: &mut [u32],
-    heads: &mut [u32],
-    list: &mut [u32],
-    lists: &mut [u32],
-    route: &mut [u32],
-    history_keys: &mut [u64],
-    history_skips: &mut [u32],
-    entry_hashes: &mut [u64],
-    entry_nexts: &mut [u32],
-    entry_sums: &mut [f32],
-    kept_hashes: &mut [u64],
-    kept_links: &mut [u32],
-    kept_sums: &mut [f32],
-    order: &mut [u32],
-    words: &mut [i32],
-    frames: &mut [u32],
-    segments: &mut [u32],
-    numbers: &mut [u64],
-    costs: &mut [f32],
-) -> ReadingList
-    requires { ⌜ ReadingsLeft (now tokens) (now sums) (now records) (now labels) (now gaps) (now finals) (length (now keys) ∷ length (now places) ∷ length (now own) ∷ length (now heads) ∷ length (now list) ∷ []) (length (now lists) / 2 ∷ length (now route) ∷ length (now «history_keys») / 2 ∷ length (now «history_skips») / 2 ∷ []) (keptPlaces (length (now «kept_hashes»)) (length (now «kept_links»)) (length (now «kept_sums»))) (length (now keys) ∷ length (now order) ∷ (length (now list) - decoder .graph .states) ∷ []) decoder ⌝ }
-    ensures { λ r. ⌜ ReadingsIs (now (tokens .entry)) (now (sums .entry)) (now (records .entry)) (now (labels .entry)) (now (gaps .entry)) (now (finals .entry)) decoder «use_final» listed max (entryPlaces (length (now («entry_hashes» .entry))) (length (now («entry_nexts» .entry))) (length (now («entry_sums» .entry)))) (keptPlaces (length (now («kept_hashes» .entry))) (length (now («kept_links» .entry))) (length (now («kept_sums» .entry)))) (listScratch (now (keys .entry)) (now (places .entry)) (now (own .entry)) (now (heads .entry)) (now (list .entry)) (now (lists .entry)) (now (route .entry)) (now («history_keys» .entry)) (now («history_skips» .entry)) (now («entry_hashes» .entry)) (now («entry_nexts» .entry)) (now («entry_sums» .entry)) (now («kept_hashes» .entry)) (now («kept_links» .entry)) (now («kept_sums» .entry)) (now (order .entry))) (listScratch (now (keys .exit)) (now (places .exit)) (now (own .exit)) (now (heads .exit)) (now (list .exit)) (now (lists .exit)) (now (route .exit)) (now («history_keys» .exit)) (now («history_skips» .exit)) (now («entry_hashes» .exit)) (now («entry_nexts» .exit)) (now («entry_sums» .exit)) (now («kept_hashes» .exit)) (now («kept_links» .exit)) (now («kept_sums» .exit)) (now (order .exit))) (listOutputs (now (words .entry)) (now (frames .entry)) (now (segments .entry)) (now (numbers .entry)) (now (costs .entry))) (listOutputs (now (words .exit)) (now (frames .exit)) (now (segments .exit)) (now (numbers .exit)) (now (costs .exit))) r ⌝ }
-{
-    let side = 1 - decoder.side;
-    reading_list::readings(
-        tokens,
-        sums,
-        finals,
-        records,
-        labels,
-        gaps,
-        decoder.graph.states,
-        side,
-        decoder.used,
-        decoder.frames,
-        decoder.keeps,
-        decoder.margin,
-        use_final,
-        listed,
-        max,
-        keys,
-        places,
-        own,
-        heads,
-        list,
-        lists,
-        route,
-        history_keys,
-        history_skips,
-        entry_hashes,
-        entry_nexts,
-        entry_sums,
-        kept_hashes,
-        kept_links,
-        kept_sums,
-        order,
-        words,
-        frames,
-        segments,
-        numbers,
-        costs,
-    )
 }

@@ -1,5 +1,5 @@
-// The entry points for C: each is a call of `decoder`, `fst`, `silence_weighting` or `reading_search`, with the contract of that call, and its answer told by a struct of
-// `c_answers`. `python3 tools/declare.py` writes what C and Rust see of this file, comments included, into `include/hirqazhom.h` and `rust/src/ffi.rs`.
+// The entry points for C: each is a call of `decoder`, `decoder_reads`, `decoder_readings`, `fst`, `silence_weighting` or `reading_search`, with the contract of that call, and its
+// answer told by a struct of `c_answers`. `python3 tools/declare.py` writes what C and Rust see of this file, comments included, into `include/hirqazhom.h` and `rust/src/ffi.rs`.
 ghost use mathlib.Core.Path.{_≡_};
 ghost use Prim.Native.Nat.{_-_, _/_};
 ghost use mathlib.Core.List.{[], _∷_};
@@ -10,7 +10,7 @@ ghost use Rattle.nonemitting.specs.Expand.{graphTables};
 ghost use Rattle.traceback.specs.Right.{parts};
 ghost use Rattle.readings.specs.Paths.{outputs};
 ghost use Rattle.readings.specs.Right.{scratch};
-ghost use Rattle.listing.specs.Places.{entryPlaces, keptPlaces};
+ghost use Rattle.places.specs.Places.{entryPlaces, keptPlaces};
 ghost use Rattle.reading_list.specs.Outputs.{outputs as listOutputs};
 ghost use Rattle.reading_list.specs.Scratch.{scratch as listScratch};
 ghost use Rattle.fst.specs.Answer.{graphOf, buildOf};
@@ -247,7 +247,7 @@ pub extern "C" fn hirqazhom_set_keep(decoder: Decoder, keeps: bool, margin: f32)
 pub extern "C" fn hirqazhom_frames_decoded(decoder: Decoder) -> u32
     ensures { λ r. ⌜ r ≡ decoder .frames ⌝ }
 {
-    decoder::frames_decoded(decoder)
+    decoder_reads::frames_decoded(decoder)
 }
 
 // How many tokens are active.
@@ -256,7 +256,7 @@ pub extern "C" fn hirqazhom_num_active(tokens: &[u32], decoder: Decoder) -> u32
     requires { ⌜ ActiveLeft (now tokens) decoder ⌝ }
     ensures { λ r. ⌜ ActiveIs (now (tokens .entry)) decoder r ⌝ }
 {
-    decoder::num_active(tokens, decoder)
+    decoder_reads::num_active(tokens, decoder)
 }
 
 // The least sum of cost and final weight, less the least cost; infinite where no active state is final.
@@ -270,7 +270,7 @@ pub extern "C" fn hirqazhom_final_relative_cost(
     requires { ⌜ RelativeLeft (now tokens) (now sums) (now finals) decoder ⌝ }
     ensures { λ r. ⌜ RelativeCostIs (now (tokens .entry)) (now (sums .entry)) (now (finals .entry)) decoder r ⌝ }
 {
-    decoder::final_relative_cost(tokens, sums, finals, decoder)
+    decoder_reads::final_relative_cost(tokens, sums, finals, decoder)
 }
 
 // The best path: words, a frame for each, and segments of three numbers: phone, start, end. Refused by 11: nothing is written.
@@ -290,7 +290,7 @@ pub extern "C" fn hirqazhom_best_path(
     requires { ⌜ FinalsLeft (now tokens) (now sums) (now records) (now labels) (now finals) decoder ⌝ }
     ensures { λ r. ⌜ FormOf (BestPathIs (now (tokens .entry)) (now (sums .entry)) (now (records .entry)) (now (labels .entry)) (now (finals .entry)) decoder «use_final» (parts (now (words .entry)) (now (frames .entry)) (now (segments .entry))) (parts (now (words .exit)) (now (frames .exit)) (now (segments .exit)))) pathOf r ⌝ }
 {
-    path_of(decoder::best_path(
+    path_of(decoder_reads::best_path(
         tokens,
         sums,
         records,
@@ -330,7 +330,7 @@ pub extern "C" fn hirqazhom_alternatives(
     requires { ⌜ AlternativesLeft (now tokens) (now sums) (now records) (now labels) (now finals) (length (now keys) ∷ length (now places) ∷ length (now own) ∷ []) (length (now «history_keys») / 2 ∷ length (now «history_skips») / 2 ∷ []) decoder ⌝ }
     ensures { λ r. ⌜ FormOf (AlternativesIs (now (tokens .entry)) (now (sums .entry)) (now (records .entry)) (now (labels .entry)) (now (finals .entry)) decoder «use_final» max (scratch (now (keys .entry)) (now (places .entry)) (now (own .entry)) (now («history_keys» .entry)) (now («history_skips» .entry))) (scratch (now (keys .exit)) (now (places .exit)) (now (own .exit)) (now («history_keys» .exit)) (now («history_skips» .exit))) (outputs (now (words .entry)) (now (frames .entry)) (now (segments .entry)) (now (ends .entry)) (now (costs .entry))) (outputs (now (words .exit)) (now (frames .exit)) (now (segments .exit)) (now (ends .exit)) (now (costs .exit)))) listedCount r ⌝ }
 {
-    listed_count(decoder::alternatives(
+    listed_count(decoder_reads::alternatives(
         tokens,
         sums,
         records,
@@ -391,7 +391,7 @@ pub extern "C" fn hirqazhom_reading_list(
     requires { ⌜ ReadingsLeft (now tokens) (now sums) (now records) (now labels) (now gaps) (now finals) (length (now keys) ∷ length (now places) ∷ length (now own) ∷ length (now heads) ∷ length (now list) ∷ []) (length (now lists) / 2 ∷ length (now route) ∷ length (now «history_keys») / 2 ∷ length (now «history_skips») / 2 ∷ []) (keptPlaces (length (now «kept_hashes»)) (length (now «kept_links»)) (length (now «kept_sums»))) (length (now keys) ∷ length (now order) ∷ (length (now list) - decoder .graph .states) ∷ []) decoder ⌝ }
     ensures { λ r. ⌜ FormOf (ReadingsIs (now (tokens .entry)) (now (sums .entry)) (now (records .entry)) (now (labels .entry)) (now (gaps .entry)) (now (finals .entry)) decoder «use_final» listed max (entryPlaces (length (now («entry_hashes» .entry))) (length (now («entry_nexts» .entry))) (length (now («entry_sums» .entry)))) (keptPlaces (length (now («kept_hashes» .entry))) (length (now («kept_links» .entry))) (length (now («kept_sums» .entry)))) (listScratch (now (keys .entry)) (now (places .entry)) (now (own .entry)) (now (heads .entry)) (now (list .entry)) (now (lists .entry)) (now (route .entry)) (now («history_keys» .entry)) (now («history_skips» .entry)) (now («entry_hashes» .entry)) (now («entry_nexts» .entry)) (now («entry_sums» .entry)) (now («kept_hashes» .entry)) (now («kept_links» .entry)) (now («kept_sums» .entry)) (now (order .entry))) (listScratch (now (keys .exit)) (now (places .exit)) (now (own .exit)) (now (heads .exit)) (now (list .exit)) (now (lists .exit)) (now (route .exit)) (now («history_keys» .exit)) (now («history_skips» .exit)) (now («entry_hashes» .exit)) (now («entry_nexts» .exit)) (now («entry_sums» .exit)) (now («kept_hashes» .exit)) (now («kept_links» .exit)) (now («kept_sums» .exit)) (now (order .exit))) (listOutputs (now (words .entry)) (now (frames .entry)) (now (segments .entry)) (now (numbers .entry)) (now (costs .entry))) (listOutputs (now (words .exit)) (now (frames .exit)) (now (segments .exit)) (now (numbers .exit)) (now (costs .exit)))) readingCount r ⌝ }
 {
-    reading_count(decoder::reading_list(
+    reading_count(decoder_readings::reading_list(
         tokens,
         sums,
         records,

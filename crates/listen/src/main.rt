@@ -265,7 +265,7 @@ fn write_best(
     let mut words = [0i32; 32];
     let mut frames = [0u32; 32];
     let mut segments = [0u32; 96];
-    match decoder::best_path(
+    match decoder_reads::best_path(
         tokens,
         sums,
         records,
@@ -281,7 +281,7 @@ fn write_best(
         BestPath::Nobody => write_text(b"nothing was heard\n"),
         BestPath::Found(size, _) => {
             let n = size.words as usize;
-            write_words(&words, &frames, n, decoder::frames_decoded(d));
+            write_words(&words, &frames, n, decoder_reads::frames_decoded(d));
         }
     }
 }

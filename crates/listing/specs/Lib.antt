@@ -1,5 +1,4 @@
 -- What the contracts of the reading list cite, and its laws.
-pub mod Places
 pub mod Listed
 pub mod Rooms
 pub mod Copies

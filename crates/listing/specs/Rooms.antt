@@ -5,32 +5,15 @@ use native.Mathlib.Omega.{arith}
 use mathlib.Core.List.{List}
 use lib.ListN.{length}
 use lib.Ieee.{Float}
-use borrow.Author.Tests.{lt-ltb, le-ltb}
-use Rattle.lists.specs.Tests.{case, lt-or-le}
 use Rattle.entries.specs.Entries.{Room as EntryRoom}
 use Rattle.kept_readings.specs.Kept.{Room}
-use Rattle.listing.specs.Places.{least, entryPlaces, keptPlaces}
-
-least-both : (a b : ℕ) → (least a b ≤ a) × (least a b ≤ b)
-least-both a b = case (lt-or-le b a) (λ l. rw (lt-ltb b a l) (omega arith, omega arith)) (λ l. rw (le-ltb b a l) (omega arith, omega arith))
-
--- each of four
-least-of-four : (a b c d : ℕ) → (least (least a b) (least c d) ≤ a) × (least (least a b) (least c d) ≤ b) × (least (least a b) (least c d) ≤ c) × (least (least a b) (least c d) ≤ d)
-least-of-four a b c d =
-    let x = least-both (least a b) (least c d) in
-    let y = least-both a b in
-    let z = least-both c d in
-    (omega arith, omega arith, omega arith, omega arith)
+use Rattle.places.specs.Places.{entryPlaces, keptPlaces, least-of-four}
 
 -- room for fewer
 pub room-less : {hs ns : List ℕ} {xs : List Float} {n m : ℕ} → Room hs ns xs n → m ≤ n → Room hs ns xs m
 room-less R l = let h = R .hashes in let k = R .links in let s = R .sums in record { hashes = omega arith; links = omega arith; sums = omega arith }
 
 module _ (h x s : ℕ) {r : ℕ} (is : r ≡ entryPlaces h x s) where
-  -- numbers of entries fit
-  pub entry-few : r ≤ 0x7fff_fff0
-  entry-few = let z = least-of-four h (x / 3) (s / 2) 0x7fff_fff0 .3 in omega arith
-
   -- the stores of entries hold them
   pub entry-room : {hs ns : List ℕ} {xs : List Float} → length hs ≡ h → length ns ≡ x → length xs ≡ s → EntryRoom hs ns xs r
   entry-room p q v =
@@ -38,10 +21,6 @@ module _ (h x s : ℕ) {r : ℕ} (is : r ≡ entryPlaces h x s) where
       record { hashes = omega arith; nexts = omega arith; sums = omega arith }
 
 module _ (h l s : ℕ) {r : ℕ} (is : r ≡ keptPlaces h l s) where
-  -- numbers of kept readings fit
-  pub kept-few : r ≤ 0x7fff_fff0
-  kept-few = let z = least-of-four h (l / 4) (s / 2) 0x7fff_fff0 .3 in omega arith
-
   -- the stores of kept readings hold them
   pub kept-room : {hs ns : List ℕ} {xs : List Float} → length hs ≡ h → length ns ≡ l → length xs ≡ s → Room hs ns xs r
   kept-room p q v =

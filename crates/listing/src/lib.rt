@@ -7,16 +7,10 @@ ghost use lib.ListN.{length};
 ghost use Rattle.summaries.specs.Summed.{Keys, Summed};
 ghost use Rattle.merged.specs.Items.{keptFirst};
 ghost use Rattle.listing_laws.specs.Whole.{sameTest};
-ghost use Rattle.listing.specs.Places.{least, entryPlaces, keptPlaces};
+ghost use Rattle.places.specs.Places.{entryPlaces, keptPlaces};
 ghost use Rattle.listing.specs.Listed.{scratch, slices, ListingAsks, OwnListAsks, Copied, boundOf, BoundAsks, OwnListed, HeadsListed, FindAsks, FoundIs, WithAsks, WithIs, ListingIs};
 ghost use Rattle.listing.specs.Finding.{HeadsListAsks};
 ghost use Rattle.listing.specs.Settling.{SettleAsks, Settled};
-
-fn smaller(a: usize, b: usize) -> usize
-    ensures { λ r. ⌜ r ≡ least a b ⌝ }
-{
-    if b < a { b } else { a }
-}
 
 fn copy(from: &[u32], to: &mut [u32], n: usize)
     requires { ⌜ (n ≤ length (now from)) × (n ≤ length (now to)) ⌝ }
@@ -45,20 +39,6 @@ fn bound_of(
         return real32::infinity();
     }
     merged::own_rank(tokens, sums, finals, side, counts, own[listed - 1])
-}
-
-// How many entries the stores below joins hold.
-fn entry_places(hashes: usize, nexts: usize, sums: usize) -> u32
-    ensures { λ r. ⌜ r ≡ entryPlaces hashes nexts sums ⌝ }
-{
-    smaller(smaller(hashes, nexts / 3), smaller(sums / 2, 0x7fff_fff0)) as u32
-}
-
-// How many kept readings their stores hold.
-pub fn kept_places(hashes: usize, links: usize, sums: usize) -> usize
-    ensures { λ r. ⌜ r ≡ keptPlaces hashes links sums ⌝ }
-{
-    smaller(smaller(hashes, links / 4), smaller(sums / 2, 0x7fff_fff0))
 }
 
 // How many states are ranked, and how many of them are the first of their word list.
@@ -213,7 +193,7 @@ fn find_kept(
         keys,
         places,
     );
-    let room = entry_places(hashes.len(), nexts.len(), costs.len());
+    let room = places::entry_places(hashes.len(), nexts.len(), costs.len());
     let free = below::fill_below(
         tokens,
         side,
@@ -494,7 +474,7 @@ pub fn list_readings(
         return Listing::Items(r.own);
     }
     let bound = bound_of(tokens, sums, finals, side, counts, own, r.own, listed);
-    let most = kept_places(kept_hashes.len(), kept_links.len(), kept_sums.len());
+    let most = places::kept_places(kept_hashes.len(), kept_links.len(), kept_sums.len());
     match find_kept(
         tokens,
         sums,

@@ -8,7 +8,7 @@ ghost use Rattle.summaries.specs.Summed.{Skips};
 ghost use Rattle.routes.specs.Counts.{Counts};
 ghost use Rattle.traceback.specs.Trail.{noTrail};
 ghost use Rattle.traceback.specs.Chain.{Walkable, trailFrom};
-ghost use Rattle.listing.specs.Places.{entryPlaces, keptPlaces};
+ghost use Rattle.places.specs.Places.{entryPlaces, keptPlaces};
 ghost use Rattle.listing.specs.Listed.{scratch, ListingAsks};
 ghost use Rattle.stores.specs.Lent.{Used};
 ghost use Rattle.reading_list.specs.Outputs.{outputs};

@@ -17,7 +17,7 @@ use Rattle.decoder.specs.declared.Called.{Called}
 use Rattle.decoder.specs.declared.Fitted.{Fitted}
 use Rattle.decoder.specs.Contracts.{Promised, keepOf}
 use Rattle.decoder.specs.Behaves.{valueOf}
-use Rattle.decoder.specs.Reads.{keep-is}
+use Rattle.decoder.specs.Keep.{keep-is}
 use Rattle.replay_places.specs.Held.{Held, HeldFitted, call-held}
 use Rattle.replay_calls.specs.declared.Answered.{Answered}
 

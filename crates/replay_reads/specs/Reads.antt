@@ -12,7 +12,7 @@ use lib.ListN.{length}
 use Rattle.stores.specs.Rep.{lent}
 use Rattle.arcs.specs.State.{Tables}
 use Rattle.checks.specs.Fit.{Wide}
-use Rattle.listing.specs.Places.{least, keptPlaces}
+use Rattle.places.specs.Places.{least, keptPlaces}
 use Rattle.decoder.specs.declared.Decoder.{Decoder}
 use Rattle.decoder.specs.Contracts.{FinalsLeft, RelativeLeft, AlternativesLeft, GapsLeft, ReadingsLeft}
 use Rattle.decoder.specs.Held.{held-asked}

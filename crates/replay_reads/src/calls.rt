@@ -23,16 +23,16 @@ pub fn say_number(r: Record, tokens: &[u32], sums: &[f32], finals: &[f32], d: De
         return;
     }
     if kind == RELATIVE {
-        let cost = decoder::final_relative_cost(tokens, sums, finals, d);
+        let cost = decoder_reads::final_relative_cost(tokens, sums, finals, d);
         replay_answers::say_word(kind, script::bits_of(cost));
         return;
     }
     if kind == ACTIVE {
-        replay_answers::say_word(kind, decoder::num_active(tokens, d));
+        replay_answers::say_word(kind, decoder_reads::num_active(tokens, d));
         return;
     }
     if kind == FRAMES {
-        replay_answers::say_word(kind, decoder::frames_decoded(d));
+        replay_answers::say_word(kind, decoder_reads::frames_decoded(d));
         return;
     }
     replay_answers::say_fault(kind);
@@ -52,7 +52,7 @@ pub fn answer_best(
 )
     requires { ⌜ FinalsLeft (now tokens) (now sums) (now records) (now labels) (now finals) d ⌝ }
 {
-    let path = decoder::best_path(
+    let path = decoder_reads::best_path(
         tokens,
         sums,
         records,
@@ -100,7 +100,7 @@ pub fn list_paths(
     let mut own = replay_places::state_places();
     let mut history_keys = replay_places::history_key_places();
     let mut history_skips = replay_places::list_places();
-    let listed = decoder::alternatives(
+    let listed = decoder_reads::alternatives(
         tokens,
         sums,
         records,
@@ -164,7 +164,7 @@ pub fn list_readings(
     let mut kept_sums = replay_places::kept_sum_places();
     let mut numbering = replay_places::kept_order_places();
     let mut list = replay_places::item_places();
-    decoder::reading_list(
+    decoder_readings::reading_list(
         tokens,
         sums,
         records,

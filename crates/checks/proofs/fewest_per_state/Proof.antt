@@ -1,7 +1,7 @@
 -- The least of nine.
 use mathlib.Core.Path.{ap, _∙_}
 use Prim.Native.Nat.{_/_}
-use Rattle.listing.specs.Places.{least}
+use Rattle.places.specs.Places.{least}
 use borrow.Author.Needs.{needs}
 use Rattle.checks.proofs.fewest_per_state.Statement.{statement}
 use Rattle.checks.proofs.fewest_per_state.Tie as tie

@@ -1,7 +1,7 @@
 -- The least of three.
 use mathlib.Core.Path.{ap, _∙_}
 use Prim.Native.Nat.{_/_}
-use Rattle.listing.specs.Places.{least}
+use Rattle.places.specs.Places.{least}
 use borrow.Author.Needs.{needs}
 use Rattle.checks.proofs.record_places.Statement.{statement}
 use Rattle.checks.proofs.record_places.Tie as tie

@@ -6,7 +6,7 @@ use mathlib.Core.List.{List, [], _∷_, List·Memᴰ·head as here, List·Memᴰ
 use mathlib.Core.Bool.{not, _||_}
 use lib.Dec.{ltb}
 use borrow.Author.Tests.{lt-ltb, le-ltb}
-use Rattle.listing.specs.Places.{least}
+use Rattle.places.specs.Places.{least}
 use Rattle.checks.specs.declared.Lengths.{Lengths}
 use Rattle.model.specs.Passes.{atLeast}
 use Rattle.checks.specs.Fit.{recordPlaces, keptPlacesOf, perKept, scratchWrong, least-each, least-under, wrong-first, wrong-next, too-few, enough}

@@ -2,7 +2,7 @@
 use mathlib.Core.Path.{sym, ap, _∙_}
 use borrow.Author.Tests.{not-true, not-false}
 use Rattle.decoder.specs.declared.Called.the-variants.{Done, Refused}
-use Rattle.decoder.specs.Reads.{keep-refuses, keep-takes}
+use Rattle.decoder.specs.Keep.{keep-refuses, keep-takes}
 use borrow.Author.Needs.{needs}
 use Rattle.decoder.proofs.set_keep.Statement.{statement}
 use Rattle.decoder.proofs.set_keep.Tie as tie

@@ -2,7 +2,8 @@
 use native.Mathlib.Omega.{arith}
 use mathlib.Core.Path.{refl}
 use lib.ListN.{length}
-use Rattle.listing.specs.Rooms.{entry-few, entry-room}
+use Rattle.places.specs.Places.{entry-few}
+use Rattle.listing.specs.Rooms.{entry-room}
 use Rattle.listing.specs.Finding.{heads-list-asks, below-heads-ask, below-asked, fill-asks, none-found, many-found, all-found}
 use Rattle.listing.proofs.find_kept.Statement.{statement}
 use Rattle.listing.proofs.find_kept.Tie as tie

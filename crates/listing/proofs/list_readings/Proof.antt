@@ -3,7 +3,8 @@ use mathlib.Core.Path.{refl, sym, _∙_}
 use native.Mathlib.Omega.{arith}
 use lib.ListN.{length}
 use borrow.Author.Tests.{not-true, not-false}
-use Rattle.listing.specs.Rooms.{entry-room, kept-few, kept-room}
+use Rattle.places.specs.Places.{kept-few}
+use Rattle.listing.specs.Rooms.{entry-room, kept-room}
 use Rattle.listing.specs.Alone.{own-alone}
 use Rattle.listing.specs.Answer.{bound-asks, stores-kept, with-asks, is-full, are-items}
 use borrow.Author.Needs.{needs}

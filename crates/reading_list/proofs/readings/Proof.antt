@@ -1,7 +1,7 @@
 -- The refusals one after the other; then the list, and what is written of it.
 use mathlib.Core.Path.{refl, _∙_}
 use lib.ListN.{length}
-use Rattle.listing.specs.Rooms.{kept-few}
+use Rattle.places.specs.Places.{kept-few}
 use Rattle.reading_list.specs.Scratch.{used-self, used-late}
 use Rattle.reading_list.specs.Whole.{count-places, too-many, many-listed, many-traced, items-of, read-full, list-asks, read-right}
 use borrow.Author.Needs.{needs}

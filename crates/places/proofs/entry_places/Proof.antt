@@ -1,11 +1,10 @@
 -- The least of four.
 use mathlib.Core.Path.{_∙_, ap₂}
 use native.Mathlib.Omega.{arith}
-use Rattle.listing.specs.Places.{least}
-use Rattle.listing.specs.Rooms.{entry-few}
+use Rattle.places.specs.Places.{least, entry-few}
 use borrow.Author.Needs.{needs}
-use Rattle.listing.proofs.entry_places.Statement.{statement}
-use Rattle.listing.proofs.entry_places.Tie as tie
+use Rattle.places.proofs.entry_places.Statement.{statement}
+use Rattle.places.proofs.entry_places.Tie as tie
 
 smaller-requires : tie.Need-smaller-requires
 smaller-requires c κs = search needs

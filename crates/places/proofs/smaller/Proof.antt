@@ -1,7 +1,7 @@
 -- By its test.
 use borrow.Author.Tests.{lt-ltb, le-ltb}
-use Rattle.listing.proofs.smaller.Statement.{statement}
-use Rattle.listing.proofs.smaller.Tie as tie
+use Rattle.places.proofs.smaller.Statement.{statement}
+use Rattle.places.proofs.smaller.Tie as tie
 
 returns : tie.Need-returns
 returns c = rw (lt-ltb _ _ (c .if1 .taken))

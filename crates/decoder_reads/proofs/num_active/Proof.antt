@@ -1,8 +1,8 @@
 -- Of the finished table.
 use native.Mathlib.Omega.{arith}
-use Rattle.decoder.specs.Reads.{read-asks, active-is}
-use Rattle.decoder.proofs.num_active.Statement.{statement}
-use Rattle.decoder.proofs.num_active.Tie as tie
+use Rattle.decoder_reads.specs.Reads.{read-asks, active-is}
+use Rattle.decoder_reads.proofs.num_active.Statement.{statement}
+use Rattle.decoder_reads.proofs.num_active.Tie as tie
 
 sub-num-active : tie.Need-sub-num-active
 sub-num-active c = let z = c .before .before .pre .left .is .fixed .side in omega arith

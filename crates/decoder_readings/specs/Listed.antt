@@ -14,10 +14,11 @@ use Rattle.listing.specs.Listed.{scratch, StoresAsk, ListingAsks}
 use Rattle.reading_list.specs.declared.ReadingList.{ReadingList}
 use Rattle.reading_list.specs.Outputs.{Outputs, placesIn}
 use Rattle.reading_list.specs.Right.{ReadingsAre, ReadingsRight}
 use Rattle.decoder.specs.declared.Decoder.{Decoder}
 use Rattle.checks.specs.Fit.{Wide}
 use Rattle.decoder.specs.Contracts.{LeftOf, GapsLeft, holding}
-use Rattle.decoder.specs.Reads.{asked-is, histories-wide, finals-long, best-asks}
+use Rattle.decoder.specs.Keep.{asked-is}
+use Rattle.decoder_reads.specs.Reads.{histories-wide, finals-long, best-asks}
 
 module _ {tk : List ℕ} {sm : List Float} {rs : List ℕ} {ls : List ℤ} {gs finals : List Float} {d : Decoder} (F : GapsLeft tk sm rs ls gs finals d) where
   abbrev of : LeftOf tk sm rs ls d

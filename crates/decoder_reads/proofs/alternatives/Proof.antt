@@ -1,8 +1,8 @@
 -- Of the finished table and its records.
 use native.Mathlib.Omega.{arith}
-use Rattle.decoder.specs.Reads.{histories-wide, alternatives-asks, alternatives-is}
-use Rattle.decoder.proofs.alternatives.Statement.{statement}
-use Rattle.decoder.proofs.alternatives.Tie as tie
+use Rattle.decoder_reads.specs.Reads.{histories-wide, alternatives-asks, alternatives-is}
+use Rattle.decoder_reads.proofs.alternatives.Statement.{statement}
+use Rattle.decoder_reads.proofs.alternatives.Tie as tie
 
 sub-finished : tie.Need-sub-finished
 sub-finished c = let z = c .before .before .before .before .before .before .before .before .before .before .before .before .before .before .pre .left .left .is .fixed .side in omega arith

@@ -1,9 +1,9 @@
 -- The least of four.
 use mathlib.Core.Path.{_∙_, ap₂}
-use Rattle.listing.specs.Places.{least}
+use Rattle.places.specs.Places.{least}
 use borrow.Author.Needs.{needs}
-use Rattle.listing.proofs.kept_places.Statement.{statement}
-use Rattle.listing.proofs.kept_places.Tie as tie
+use Rattle.places.proofs.kept_places.Statement.{statement}
+use Rattle.places.proofs.kept_places.Tie as tie
 
 smaller-requires : tie.Need-smaller-requires
 smaller-requires c κs = search needs

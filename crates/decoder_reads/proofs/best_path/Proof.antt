@@ -1,9 +1,9 @@
 -- Of the finished table and its records.
 use native.Mathlib.Omega.{arith}
-use Rattle.decoder.specs.Reads.{best-asks, best-is}
+use Rattle.decoder_reads.specs.Reads.{best-asks, best-is}
 use borrow.Author.Needs.{needs}
-use Rattle.decoder.proofs.best_path.Statement.{statement}
-use Rattle.decoder.proofs.best_path.Tie as tie
+use Rattle.decoder_reads.proofs.best_path.Statement.{statement}
+use Rattle.decoder_reads.proofs.best_path.Tie as tie
 
 sub-best-path : tie.Need-sub-best-path
 sub-best-path c = let z = c .before .before .before .before .before .before .before .pre .left .is .fixed .side in omega arith

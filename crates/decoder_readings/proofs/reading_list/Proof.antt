@@ -1,8 +1,8 @@
 -- Of the finished table, its records and their gaps.
 use native.Mathlib.Omega.{arith}
-use Rattle.decoder.specs.Listed.{readings-asks, readings-is}
-use Rattle.decoder.proofs.reading_list.Statement.{statement}
-use Rattle.decoder.proofs.reading_list.Tie as tie
+use Rattle.decoder_readings.specs.Listed.{readings-asks, readings-is}
+use Rattle.decoder_readings.proofs.reading_list.Statement.{statement}
+use Rattle.decoder_readings.proofs.reading_list.Tie as tie
 
 sub-side : tie.Need-sub-side
 sub-side c = let z = c .before .before .before .before .before .before .before .before .before .before .before .before .before .before .before .before .before .before .before .before .before .before .before .before .before .before .pre .left .left .is .fixed .side in omega arith

@@ -1,8 +1,8 @@
 -- Of the finished table.
 use native.Mathlib.Omega.{arith}
-use Rattle.decoder.specs.Reads.{read-asks, finals-long, relative-is}
-use Rattle.decoder.proofs.final_relative_cost.Statement.{statement}
-use Rattle.decoder.proofs.final_relative_cost.Tie as tie
+use Rattle.decoder_reads.specs.Reads.{read-asks, finals-long, relative-is}
+use Rattle.decoder_reads.proofs.final_relative_cost.Statement.{statement}
+use Rattle.decoder_reads.proofs.final_relative_cost.Tie as tie
 
 sub-final-relative-cost : tie.Need-sub-final-relative-cost
 sub-final-relative-cost c = let z = c .before .before .before .before .pre .left .left .is .fixed .side in omega arith

@@ -1,0 +1,2 @@
+-- The reading list of a decoder.
+pub mod Listed

@@ -1,0 +1,2 @@
+-- The reads of a decoder but the reading list.
+pub mod Reads
