@@ -19,6 +19,7 @@ use Rattle.readings.specs.declared.Listed.{Listed}
 use Rattle.readings.specs.declared.Listed.the-variants.{Refused as PathsRefused, Paths}
 use Rattle.reading_list.specs.declared.ReadingList.{ReadingList}
 use Rattle.reading_list.specs.declared.ReadingList.the-variants.{Refused as ReadingsRefused, Readings}
+use Rattle.silence_weighting.specs.declared.SilenceWeighting.{SilenceWeighting}
 use Rattle.silence_weighting.specs.declared.Next.{Next}
 use Rattle.silence_weighting.specs.declared.Next.the-variants.{Refused as NextRefused, State}
 use Rattle.silence_weighting.specs.declared.Weighed.{Weighed}
@@ -80,32 +81,50 @@ abbrev pub builtVerdict : Built → Verdict
 builtVerdict (Accepted g) = accepted
 builtVerdict (NotBuilt f) = verdictOf f
 
+abbrev pub noPath : (number : ℕ) → Path
+noPath n = record { number = n; found = false; words = 0; segments = 0; cost = 0f }
+
 abbrev pub pathOf : BestPath → Path
-pathOf (PathRefused n) = record { number = n; found = false; words = 0; segments = 0; cost = 0f }
-pathOf Nobody = record { number = 0; found = false; words = 0; segments = 0; cost = 0f }
+pathOf (PathRefused n) = noPath n
+pathOf Nobody = noPath 0
 pathOf (PathFound z c) = record { number = 0; found = true; words = z .words; segments = z .segments; cost = c }
 
+abbrev pub noCount : (number : ℕ) → Count
+noCount n = record { number = n; count = 0 }
+
+abbrev pub countOf : ℕ → Count
+countOf n = record { number = 0; count = n }
+
 abbrev pub listedCount : Listed → Count
-listedCount (PathsRefused n) = record { number = n; count = 0 }
-listedCount (Paths n) = record { number = 0; count = n }
+listedCount (PathsRefused n) = noCount n
+listedCount (Paths n) = countOf n
 
 abbrev pub readingCount : ReadingList → Count
-readingCount (ReadingsRefused n) = record { number = n; count = 0 }
-readingCount (Readings n) = record { number = 0; count = n }
+readingCount (ReadingsRefused n) = noCount n
+readingCount (Readings n) = countOf n
+
+abbrev pub noSilence : (number : ℕ) → Silence
+noSilence n = record { state = record { weight = 0f; subsampling = 0; frames = 0 }; number = n; count = 0 }
+
+abbrev pub silenceAt : SilenceWeighting → (count : ℕ) → Silence
+silenceAt s n = record { state = s; number = 0; count = n }
 
 abbrev pub silenceOf : Next → Silence
-silenceOf (NextRefused n) = record { state = record { weight = 0f; subsampling = 0; frames = 0 }; number = n; count = 0 }
-silenceOf (State s) = record { state = s; number = 0; count = 0 }
+silenceOf (NextRefused n) = noSilence n
+silenceOf (State s) = silenceAt s 0
 
 abbrev pub weighedOf : Weighed → Silence
-weighedOf (WeighedRefused n) = silenceOf (NextRefused n)
-weighedOf (Deltas s n) = record { state = s; number = 0; count = n }
+weighedOf (WeighedRefused n) = noSilence n
+weighedOf (Deltas s n) = silenceAt s n
 
 abbrev pub trailingCount : Trailing → Count
-trailingCount (TrailingRefused n) = record { number = n; count = 0 }
-trailingCount (Frames n) = record { number = 0; count = n }
+trailingCount (TrailingRefused n) = noCount n
+trailingCount (Frames n) = countOf n
+
+abbrev pub noIndex : (number : ℕ) → Index
+noIndex n = record { number = n; found = false; index = 0 }
 
 abbrev pub foundIndex : Found → Index
 foundIndex (At i) = record { number = 0; found = true; index = i }
-foundIndex Nothing = record { number = 0; found = false; index = 0 }
-foundIndex (SearchRefused n) = record { number = n; found = false; index = 0 }
+foundIndex Nothing = noIndex 0
+foundIndex (SearchRefused n) = noIndex n

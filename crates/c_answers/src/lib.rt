@@ -1,6 +1,6 @@
 // What an answer is told by in C: an enum has no form there, so a struct of numbers tells it, whose `number` is 0 or the refusal's.
 ghost use mathlib.Core.Path.{_≡_};
-ghost use Rattle.c_answers.specs.Forms.{accepted, noDecoder, verdictOf, answerOf, fittedAnswer, builtVerdict, pathOf, listedCount, readingCount, silenceOf, weighedOf, trailingCount, foundIndex};
+ghost use Rattle.c_answers.specs.Forms.{accepted, noDecoder, verdictOf, answerOf, fittedAnswer, builtVerdict, noPath, pathOf, noCount, countOf, listedCount, readingCount, noSilence, silenceAt, silenceOf, weighedOf, trailingCount, noIndex, foundIndex};
 use cutoff::Config;
 use decoder::Called;
 use decoder::Decoder;
@@ -211,24 +211,24 @@ pub fn built_verdict(built: Built) -> Verdict
     }
 }
 
+fn no_path(number: u32) -> Path
+    ensures { λ r. ⌜ r ≡ noPath number ⌝ }
+{
+    Path {
+        number,
+        found: false,
+        words: 0,
+        segments: 0,
+        cost: 0.0,
+    }
+}
+
 pub fn path_of(best: BestPath) -> Path
     ensures { λ r. ⌜ r ≡ pathOf best ⌝ }
 {
     match best {
-        BestPath::Refused(n) => Path {
-            number: n,
-            found: false,
-            words: 0,
-            segments: 0,
-            cost: 0.0,
-        },
-        BestPath::Nobody => Path {
-            number: 0,
-            found: false,
-            words: 0,
-            segments: 0,
-            cost: 0.0,
-        },
+        BestPath::Refused(n) => no_path(n),
+        BestPath::Nobody => no_path(0),
         BestPath::Found(size, cost) => Path {
             number: 0,
             found: true,
@@ -239,18 +239,27 @@ pub fn path_of(best: BestPath) -> Path
     }
 }
 
+fn no_count(number: u32) -> Count
+    ensures { λ r. ⌜ r ≡ noCount number ⌝ }
+{
+    Count { number, count: 0 }
+}
+
+fn counted(n: u64) -> Count
+    ensures { λ r. ⌜ r ≡ countOf n ⌝ }
+{
+    Count {
+        number: 0,
+        count: n,
+    }
+}
+
 pub fn listed_count(listed: Listed) -> Count
     ensures { λ r. ⌜ r ≡ listedCount listed ⌝ }
 {
     match listed {
-        Listed::Refused(n) => Count {
-            number: n,
-            count: 0,
-        },
-        Listed::Paths(n) => Count {
-            number: 0,
-            count: n as u64,
-        },
+        Listed::Refused(n) => no_count(n),
+        Listed::Paths(n) => counted(n as u64),
     }
 }
 
@@ -258,19 +267,13 @@ pub fn reading_count(list: ReadingList) -> Count
     ensures { λ r. ⌜ r ≡ readingCount list ⌝ }
 {
     match list {
-        ReadingList::Refused(n) => Count {
-            number: n,
-            count: 0,
-        },
-        ReadingList::Readings(n) => Count {
-            number: 0,
-            count: n as u64,
-        },
+        ReadingList::Refused(n) => no_count(n),
+        ReadingList::Readings(n) => counted(n as u64),
     }
 }
 
 fn no_silence(number: u32) -> Silence
-    ensures { λ r. ⌜ r ≡ silenceOf (Next.Refused number) ⌝ }
+    ensures { λ r. ⌜ r ≡ noSilence number ⌝ }
 {
     let state = SilenceWeighting {
         weight: 0.0,
@@ -284,16 +287,22 @@ fn no_silence(number: u32) -> Silence
     }
 }
 
+fn silence_at(state: SilenceWeighting, count: u64) -> Silence
+    ensures { λ r. ⌜ r ≡ silenceAt state count ⌝ }
+{
+    Silence {
+        state,
+        number: 0,
+        count,
+    }
+}
+
 pub fn silence_of(next: Next) -> Silence
     ensures { λ r. ⌜ r ≡ silenceOf next ⌝ }
 {
     match next {
         Next::Refused(n) => no_silence(n),
-        Next::State(state) => Silence {
-            state,
-            number: 0,
-            count: 0,
-        },
+        Next::State(state) => silence_at(state, 0),
     }
 }
 
@@ -302,11 +311,7 @@ pub fn weighed_silence(w: Weighed) -> Silence
 {
     match w {
         Weighed::Refused(n) => no_silence(n),
-        Weighed::Deltas { next, count } => Silence {
-            state: next,
-            number: 0,
-            count: count as u64,
-        },
+        Weighed::Deltas { next, count } => silence_at(next, count as u64),
     }
 }
 
@@ -314,14 +319,18 @@ pub fn trailing_count(t: Trailing) -> Count
     ensures { λ r. ⌜ r ≡ trailingCount t ⌝ }
 {
     match t {
-        Trailing::Refused(n) => Count {
-            number: n,
-            count: 0,
-        },
-        Trailing::Frames(n) => Count {
-            number: 0,
-            count: n,
-        },
+        Trailing::Refused(n) => no_count(n),
+        Trailing::Frames(n) => counted(n),
+    }
+}
+
+fn no_index(number: u32) -> Index
+    ensures { λ r. ⌜ r ≡ noIndex number ⌝ }
+{
+    Index {
+        number,
+        found: false,
+        index: 0,
     }
 }
 
@@ -334,15 +343,7 @@ pub fn index_of(found: Found) -> Index
             found: true,
             index: i as u64,
         },
-        Found::Nothing => Index {
-            number: 0,
-            found: false,
-            index: 0,
-        },
-        Found::Refused(n) => Index {
-            number: n,
-            found: false,
-            index: 0,
-        },
+        Found::Nothing => no_index(0),
+        Found::Refused(n) => no_index(n),
     }
 }

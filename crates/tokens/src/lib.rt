@@ -88,8 +88,8 @@ pub fn cost_at(sums: &[f32], side: u32, s: u32) -> f32
     requires { ⌜ (side ≤ 1) × (s * 4 + 4 ≤ length (now sums)) ⌝ }
     ensures { λ r. ⌜ r ≡ costAt (now (sums .entry)) (placeIn side s) ⌝ }
 {
-    let p = s as usize * 2 + side as usize;
-    sums[p * 2]
+    let place = s as usize * 2 + side as usize;
+    sums[place * 2]
 }
 
 // The newest record of the token in a place; 0 where there is none.

@@ -14,12 +14,15 @@ no-silence-requires c κs = search needs
 enum-known-w-2 : tie.Need-enum-known-w-2
 enum-known-w-2 c = search needs
 
+silence-at-requires : tie.Need-silence-at-requires
+silence-at-requires c κs = search needs
+
 returns : tie.Need-returns
 returns c = c .no-silence .ensures ∙ sym (ap weighedOf (c .before .before .w .given .1))
 
 returns-2 : tie.Need-returns-2
-returns-2 c = sym (ap weighedOf (c .before .w2 .given .1))
+returns-2 c = c .silence-at .ensures ∙ sym (ap weighedOf (c .before .before .w2 .given .1))
 
 pub weighed-silence-spec : {M : Type 1} → statement M
 weighed-silence-spec =
-    tie.close (tie.spec enum-known-w no-silence-requires enum-known-w-2 returns returns-2)
+    tie.close (tie.spec enum-known-w no-silence-requires enum-known-w-2 silence-at-requires returns returns-2)
