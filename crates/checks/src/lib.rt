@@ -6,7 +6,6 @@ ghost use mathlib.Core.List.{[], _∷_};
 ghost use Rattle.lists.specs.Lists.{all};
 ghost use Rattle.real32.specs.Small.{tame};
 ghost use Rattle.model.specs.Passes.{fair, fairMargin};
-ghost use Rattle.places.specs.Places.{least};
 ghost use Rattle.checks.specs.Fit.{leastOf, recordPlaces, configWrong, storesWrong};
 ghost use Rattle.checks.specs.Frame.{frameNumber};
 ghost use Rattle.checks.specs.Margin.{asked};
