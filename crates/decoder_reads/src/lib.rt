@@ -11,12 +11,14 @@ use decoder::Decoder;
 use readings::Listed;
 use traceback::BestPath;
 
+// The frames since the latest start.
 pub fn frames_decoded(d: Decoder) -> u32
     ensures { λ r. ⌜ r ≡ d .frames ⌝ }
 {
     d.frames
 }
 
+// The active tokens of the finished table.
 pub fn num_active(tokens: &[u32], decoder: Decoder) -> u32
     requires { ⌜ ActiveLeft (now tokens) decoder ⌝ }
     ensures { λ r. ⌜ ActiveIs (now (tokens .entry)) decoder r ⌝ }
@@ -24,6 +26,7 @@ pub fn num_active(tokens: &[u32], decoder: Decoder) -> u32
     traceback::num_active(tokens, decoder.graph.states, 1 - decoder.side)
 }
 
+// The least cost with its final weight, over the least cost; +∞ where no active state is final.
 pub fn final_relative_cost(tokens: &[u32], sums: &[f32], finals: &[f32], decoder: Decoder) -> f32
     requires { ⌜ RelativeLeft (now tokens) (now sums) (now finals) decoder ⌝ }
     ensures { λ r. ⌜ RelativeCostIs (now (tokens .entry)) (now (sums .entry)) (now (finals .entry)) decoder r ⌝ }
