@@ -11,7 +11,7 @@ use lib.Ieee.{Float}
 use Rattle.lists.specs.Tests.{case, lt-or-le}
 use Rattle.lists.specs.Lists.{_∈_, keepIf, sortBy, firsts, range}
 use Rattle.lists.specs.Members.{at-member, getD-any, take-from, keep-from, sort-from, firsts-from, map-from}
-use Rattle.lists.specs.Parts.{ranges-alike}
+use Rattle.lists.specs.Parts.{range-at, ranges-alike}
 use Rattle.model.specs.Basics.{_≺_}
 use Rattle.model.specs.Readings.{Below, atStart, sameKey, cheapest}
 use Rattle.records.specs.History.{History}
@@ -20,7 +20,7 @@ use Rattle.entries.specs.declared.Way.{Way}
 use Rattle.entries.specs.Entries.{noEntry, entryIn, entryAt, entries, sameKey as sameEntry}
 use Rattle.entries.specs.Ways.{byWay as entryBy, wayEntries, listOf}
 use Rattle.below.specs.Stored.{via, standsFor, asBelow, Decoded, firstAt, countAt, listAt}
-use Rattle.below.specs.Maps.{keep-map, sort-map, firsts-map, take-map, map-same, range-member, range-at}
+use Rattle.below.specs.Maps.{keep-map, sort-map, firsts-map, take-map, map-same, range-member}
 
 -- ---- the list that is made of two ways
 

@@ -2,10 +2,9 @@
 use mathlib.Core.Path.{_≡_, refl, sym, ap, ap₂, _∙_}
 use Prim.Native.Nat.{ℕ, zero, suc, _+_, _≤_, _<_}
 use native.Mathlib.Omega.{arith}
-use native.Mathlib.Nat.{add-zero}
 use mathlib.Core.Bool.{Bool, true, false, _||_, cond}
 use mathlib.Core.List.{List, [], _∷_, map, List·Memᴰ·head as here, List·Memᴰ·tail as there}
-use lib.ListN.{getD, take}
+use lib.ListN.{take}
 use Rattle.lists.specs.Tests.{case, never, lt-or-le}
 use Rattle.lists.specs.Lists.{_∈_, any, keepIf, insertBy, sortBy, firsts, range}
 
@@ -76,9 +75,3 @@ range-member a (suc n) i (there m) = let z = range-member (suc a) n i m in let x
 pub range-in : (a n i : ℕ) → a ≤ i → i < a + n → i ∈ range a n
 range-in a zero i l u = absurd (omega arith)
 range-in a (suc n) i l u = case (lt-or-le a i) (λ h. there (range-in (suc a) n i (omega arith) (omega arith))) (λ h. here (omega arith))
-
--- the one in place i
-pub range-at : {A : Type 0} (f : ℕ → A) (a n i : ℕ) (d : A) → i < n → getD (map f (range a n)) i d ≡ f (a + i)
-range-at f a zero i d l = absurd (omega arith)
-range-at f a (suc n) zero d l = ap f (sym (add-zero a))
-range-at f a (suc n) (suc i) d l = range-at f (suc a) n i d (omega arith) ∙ ap f (let e : suc a + i ≡ a + suc i = omega arith in e)

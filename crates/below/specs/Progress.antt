@@ -12,6 +12,7 @@ use lib.Ieee.{Float}
 use Rattle.lists.specs.Tests.{case, never, lt-or-le, holds, is-true}
 use Rattle.lists.specs.Lists.{_∈_, range}
 use Rattle.lists.specs.Members.{at-member, map-to, keep-to, keep-passes}
+use Rattle.lists.specs.Parts.{range-at}
 use Rattle.real32.specs.Small.{huge}
 use Rattle.model.specs.Basics.{_≺_, _≼_}
 use Rattle.model.specs.Readings.{Below}
@@ -27,7 +28,7 @@ use Rattle.below.specs.Lists.{belowOf}
 use Rattle.below.specs.Stored.{asBelow, Decoded, firstAt, countAt, listAt}
 use Rattle.below.specs.Ways.{OwnWay, KeptWay}
 use Rattle.below.specs.Filling.{entriesBelow, Outcome, wasFilled}
-use Rattle.below.specs.Maps.{range-in, range-at}
+use Rattle.below.specs.Maps.{range-in}
 use Rattle.below.specs.Lengths.{below-len}
 use Rattle.below.specs.Decoding.{list-from, way-from, decoded-more}
 use Rattle.below.specs.Steps.{Filled, filled-start, filled-more, filled-same, filled-new, prev-below, kept-below, list-is, own-rises, kept-rises}

@@ -13,7 +13,7 @@ use borrow.Author.Tests.{eq-eqb, ne-eqb}
 use Rattle.lists.specs.Tests.{case, lt-or-le, below-more}
 use Rattle.lists.specs.Lists.{any, range}
 use Rattle.lists.specs.Members.{any-yes}
-use Rattle.lists.specs.Parts.{in-range}
+use Rattle.lists.specs.Parts.{in-range, range-many, range-at}
 use Rattle.lists.specs.Sets.{sets-off, sets-on, sets-first}
 use Rattle.model.specs.Basics.{_≺_, _⊕_}
 use Rattle.entries.specs.declared.Entry.{Entry}
@@ -89,17 +89,8 @@ range-next {A} f a (suc n) =
 pub entries-next : (hs ns : List ℕ) (xs : List Float) (from n : ℕ) → entries hs ns xs from (n + 1) ≡ entries hs ns xs from n ++ entryAt hs ns xs (from + n) ∷ []
 entries-next hs ns xs = range-next (entryAt hs ns xs)
 
-range-many : {A : Type 0} (f : ℕ → A) (a n : ℕ) → length (map f (range a n)) ≡ n
-range-many f a zero = refl
-range-many f a (suc n) = ap suc (range-many f (suc a) n)
-
 pub entries-many : (hs ns : List ℕ) (xs : List Float) (from n : ℕ) → length (entries hs ns xs from n) ≡ n
 entries-many hs ns xs = range-many (entryAt hs ns xs)
-
-range-at : {A : Type 0} (f : ℕ → A) (a n i : ℕ) (d : A) → i < n → getD (map f (range a n)) i d ≡ f (a + i)
-range-at f a zero i d h = absurd (omega arith)
-range-at f a (suc n) zero d h = ap f (omega arith)
-range-at f a (suc n) (suc i) d h = range-at f (suc a) n i d (omega arith) ∙ ap f (omega arith)
 
 -- ---- looking for words
 

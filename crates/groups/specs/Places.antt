@@ -6,7 +6,7 @@ use native.Mathlib.Omega.{arith}
 use mathlib.Core.Bool.{Bool, true, false, not, _&&_, _||_, cond}
 use mathlib.Core.List.{List, [], _∷_, _++_, map, List·Memᴰ·head as here, List·Memᴰ·tail as there}
 use lib.Dec.{ltb, eqb}
-use lib.ListN.{length, getD, take, length-map}
+use lib.ListN.{length, getD, take}
 use lib.Seq.{length-take-le}
 use borrow.Author.Tests.{ltb-true, eqb-true, eq-eqb}
 use Rattle.lists.specs.Tests.{case, lt-or-le, eq-or-not, never, holds, is-true, or-split, and-both}
@@ -14,6 +14,7 @@ use Rattle.lists.specs.Lists.{_∈_, any, keepIf, firsts, range, sortBy}
 use Rattle.lists.specs.Members.{at-member, member-at, any-yes, any-some, map-from, map-to, sort-from}
 use Rattle.lists.specs.Order.{Sorted, sort-perm, sort-sorted, perm-length, perm-member}
 use Rattle.lists.specs.Count.{Nodup}
+use Rattle.lists.specs.Parts.{range-many}
 use Rattle.copy_laws.specs.Minima.{sort-nodup}
 use Rattle.sorting.specs.Pairs.{pairsOf, pairAt, pairBefore, pairs-at, Any, before-strict, before-total}
 use Rattle.sorting.specs.Keyed.{pairs-keyed}
@@ -21,10 +22,6 @@ use Rattle.sorting.specs.Moves.{Lent}
 use Rattle.sorting.specs.Sorting.{Sorted as SortedBy}
 
 -- ---- ranges
-
-pub range-length : (a n : ℕ) → length (range a n) ≡ n
-range-length a zero = refl
-range-length a (suc n) = ap suc (range-length (suc a) n)
 
 pub range-at : (a n i d : ℕ) → i < n → getD (range a n) i d ≡ a + i
 range-at a zero i d l = absurd (omega arith)
@@ -165,7 +162,7 @@ module _ (key : ℕ → ℕ) (n : ℕ) where
   sorted = sortBy pairBefore (map keyed (range 0 n))
 
   sorted-long : length sorted ≡ n
-  sorted-long = sym (perm-length (sort-perm pairBefore (map keyed (range 0 n)))) ∙ length-map (range 0 n) keyed ∙ range-length 0 n
+  sorted-long = sym (perm-length (sort-perm pairBefore (map keyed (range 0 n)))) ∙ range-many keyed 0 n
 
   from-range : (j : ℕ) → j < n → (i : ℕ) × (i < n) × (pairAt sorted j ≡ keyed i)
   from-range j l =

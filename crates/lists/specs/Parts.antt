@@ -19,6 +19,15 @@ in-range f a zero i h = absurd (omega arith)
 in-range f a (suc n) zero h = here (ap f (add-zero a))
 in-range f a (suc n) (suc i) h = there (subst (λ (k : ℕ). f k ∈ map f (range (suc a) n)) (suc-add a i ∙ sym (add-suc a i)) (in-range f (suc a) n i (omega arith)))
 
+pub range-many : {A : Type 0} (f : ℕ → A) (a n : ℕ) → length (map f (range a n)) ≡ n
+range-many f a zero = refl
+range-many f a (suc n) = ap suc (range-many f (suc a) n)
+
+pub range-at : {A : Type 0} (f : ℕ → A) (a n i : ℕ) (d : A) → i < n → getD (map f (range a n)) i d ≡ f (a + i)
+range-at f a zero i d h = absurd (omega arith)
+range-at f a (suc n) zero d h = ap f (omega arith)
+range-at f a (suc n) (suc i) d h = range-at f (suc a) n i d (omega arith) ∙ ap f (omega arith)
+
 -- two functions that agree, from a on and from b on
 pub ranges-alike : {A : Type 0} (f g : ℕ → A) (a b n : ℕ) → ((i : ℕ) → i < n → f (a + i) ≡ g (b + i)) → map f (range a n) ≡ map g (range b n)
 ranges-alike f g a b zero h = refl
