@@ -63,6 +63,9 @@ pub const QUEUE_FULL: u32 = 14;
 // The lists below joins, or the kept readings, have more entries than their store.
 pub const LISTS_FULL: u32 = 15;
 
+// A block to shuffle or unshuffle whose length is not divisible by four, or an output of another length.
+pub const BAD_BLOCK: u32 = 20;
+
 // ---- the limits
 
 // The states of a graph.
