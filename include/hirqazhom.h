@@ -3,7 +3,7 @@
    A board uses the second part: one struct for a decoder, and functions over it. The first part are the library's own calls, which the second is written with.
    There a slice is a pointer and its length in elements. A pointer to const is read, or lent for its length alone; any other is written, and what a call writes overlaps
    with nothing else that it is lent. Each call gets the decoder's value and the stores that the last one left; only `hirqazhom_build`, `_fit`, `_set_keep`,
-   `_frames_decoded`, the silence calls and `_find` take anything, and the other calls check nothing of this. */
+   `_frames_decoded`, the silence calls, `_find`, `_shuffle` and `_unshuffle` take anything, and the other calls check nothing of this. */
 #ifndef HIRQAZHOM_H
 #define HIRQAZHOM_H
 
@@ -65,6 +65,9 @@ extern "C" {
 
 /* The lists below joins, or the kept readings, have more entries than their store. */
 #define HIRQAZHOM_LISTS_FULL 15u
+
+/* A block to shuffle or unshuffle whose length is not divisible by four, or an output of another length. */
+#define HIRQAZHOM_BAD_BLOCK 20u
 
 /* The states of a graph. */
 #define HIRQAZHOM_MAX_STATES 65535u
@@ -478,6 +481,13 @@ struct hirqazhom_index hirqazhom_find(
     int32_t word,
     const uint32_t *ends, size_t ends_len,
     const int32_t *words, size_t words_len);
+
+/* The bytes of a block of four-byte numbers by their place in the number: all first bytes, then all second, third and fourth. Gives 0; or 20, and the output
+   is unchanged, where the length is not divisible by four or the output has another. */
+uint32_t hirqazhom_shuffle(const uint8_t *block, size_t block_len, uint8_t *output, size_t output_len);
+
+/* The way back, refused likewise. Either way after the other restores every block. */
+uint32_t hirqazhom_unshuffle(const uint8_t *block, size_t block_len, uint8_t *output, size_t output_len);
 
 /* ---- end of what tools/declare.py writes ---- */
 

@@ -48,6 +48,9 @@ pub mod constants {
     /// The lists below joins, or the kept readings, have more entries than their store.
     pub const LISTS_FULL: u32 = 15;
 
+    /// A block to shuffle or unshuffle whose length is not divisible by four, or an output of another length.
+    pub const BAD_BLOCK: u32 = 20;
+
     /// The states of a graph.
     pub const MAX_STATES: usize = 65_535;
 
@@ -610,4 +613,9 @@ extern "C" {
     ) -> Count;
     /// Some reading that has the word. The words of reading i end before `ends[i]`. Refused by 11 where ends fall or pass the words.
     pub fn hirqazhom_find(word: i32, ends: *const u32, ends_len: usize, words: *const i32, words_len: usize) -> Index;
+    /// The bytes of a block of four-byte numbers by their place in the number: all first bytes, then all second, third and fourth. Gives 0; or 20, and the output
+    /// is unchanged, where the length is not divisible by four or the output has another.
+    pub fn hirqazhom_shuffle(block: *const u8, block_len: usize, output: *mut u8, output_len: usize) -> u32;
+    /// The way back, refused likewise. Either way after the other restores every block.
+    pub fn hirqazhom_unshuffle(block: *const u8, block_len: usize, output: *mut u8, output_len: usize) -> u32;
 }

@@ -28,6 +28,8 @@ use Rattle.silence_weighting.specs.declared.Trailing.{Trailing}
 use Rattle.silence_weighting.specs.declared.Trailing.the-variants.{Refused as TrailingRefused, Frames}
 use Rattle.reading_search.specs.declared.Found.{Found}
 use Rattle.reading_search.specs.declared.Found.the-variants.{At, Nothing, Refused as SearchRefused}
+use Rattle.shuffle.specs.declared.Shuffled.{Shuffled}
+use Rattle.shuffle.specs.declared.Shuffled.the-variants.{Done as ShuffleDone, Refused as ShuffleRefused}
 use Rattle.c_answers.specs.declared.Verdict.{Verdict}
 use Rattle.c_answers.specs.declared.Fitting.{Fitting}
 use Rattle.c_answers.specs.declared.Answer.{Answer}
@@ -128,3 +130,7 @@ abbrev pub foundIndex : Found → Index
 foundIndex (At i) = record { number = 0; found = true; index = i }
 foundIndex Nothing = noIndex 0
 foundIndex (SearchRefused n) = noIndex n
+
+abbrev pub shuffledNumber : Shuffled → ℕ
+shuffledNumber ShuffleDone = 0
+shuffledNumber (ShuffleRefused n) = n

@@ -1,6 +1,6 @@
 // What an answer is told by in C: an enum has no form there, so a struct of numbers tells it, whose `number` is 0 or the refusal's.
 ghost use mathlib.Core.Path.{_≡_};
-ghost use Rattle.c_answers.specs.Forms.{accepted, noDecoder, verdictOf, answerOf, fittedAnswer, builtVerdict, noPath, pathOf, noCount, countOf, listedCount, readingCount, noSilence, silenceAt, silenceOf, weighedOf, trailingCount, noIndex, foundIndex};
+ghost use Rattle.c_answers.specs.Forms.{accepted, noDecoder, verdictOf, answerOf, fittedAnswer, builtVerdict, noPath, pathOf, noCount, countOf, listedCount, readingCount, noSilence, silenceAt, silenceOf, weighedOf, trailingCount, noIndex, foundIndex, shuffledNumber};
 use cutoff::Config;
 use decoder::Called;
 use decoder::Decoder;
@@ -12,6 +12,7 @@ use reading_search::Found;
 use readings::Listed;
 use refusals::Place;
 use refusals::Refusal;
+use shuffle::Shuffled;
 use silence_weighting::Next;
 use silence_weighting::SilenceWeighting;
 use silence_weighting::Trailing;
@@ -345,5 +346,14 @@ pub fn index_of(found: Found) -> Index
         },
         Found::Nothing => no_index(0),
         Found::Refused(n) => no_index(n),
+    }
+}
+
+pub fn shuffled_number(s: Shuffled) -> u32
+    ensures { λ r. ⌜ r ≡ shuffledNumber s ⌝ }
+{
+    match s {
+        Shuffled::Done => 0,
+        Shuffled::Refused(n) => n,
     }
 }

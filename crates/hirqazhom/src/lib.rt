@@ -1,5 +1,6 @@
-// The entry points for C: each is a call of `decoder`, `decoder_reads`, `decoder_readings`, `fst`, `silence_weighting` or `reading_search`, with the contract of that call, and its
-// answer told by a struct of `c_answers`. `python3 tools/declare.py` writes what C and Rust see of this file, comments included, into `include/hirqazhom.h` and `rust/src/ffi.rs`.
+// The entry points for C: each is a call of `decoder`, `decoder_reads`, `decoder_readings`, `fst`, `silence_weighting`, `reading_search` or `shuffle`, with the contract of that call,
+// and its answer told by a struct or a number of `c_answers`. `python3 tools/declare.py` writes what C and Rust see of this file, comments included, into `include/hirqazhom.h` and
+// `rust/src/ffi.rs`.
 ghost use mathlib.Core.Path.{_≡_};
 ghost use Prim.Native.Nat.{_-_, _/_};
 ghost use mathlib.Core.List.{[], _∷_};
@@ -16,10 +17,11 @@ ghost use Rattle.reading_list.specs.Scratch.{scratch as listScratch};
 ghost use Rattle.fst.specs.Answer.{graphOf, buildOf};
 ghost use Rattle.silence_weighting.specs.Answers.{NewRight, ActiveRight, TracebackRight, DeltasRight, TrailingRight};
 ghost use Rattle.reading_search.specs.Found.{foundOf, listing};
+ghost use Rattle.shuffle.specs.Block.{shuffled, unshuffled, Rearranged};
 ghost use Rattle.decoder.specs.Represents.{Left};
 ghost use Rattle.decoder.specs.Contracts.{StartIs, FrameIs, keepOf, FitIs, FrameLeft, ActiveLeft, FinalsLeft, RelativeLeft, AlternativesLeft, ReadingsLeft, ActiveIs, RelativeCostIs, BestPathIs, AlternativesIs, ReadingsIs};
 ghost use Rattle.decoder.specs.Fit.{lengthsOf};
-ghost use Rattle.c_answers.specs.Forms.{FormOf, answerOf, fittedAnswer, builtVerdict, pathOf, listedCount, readingCount, silenceOf, weighedOf, trailingCount, foundIndex};
+ghost use Rattle.c_answers.specs.Forms.{FormOf, answerOf, fittedAnswer, builtVerdict, pathOf, listedCount, readingCount, silenceOf, weighedOf, trailingCount, foundIndex, shuffledNumber};
 use c_answers::Answer;
 use c_answers::Count;
 use c_answers::Fitting;
@@ -34,6 +36,7 @@ use c_answers::index_of;
 use c_answers::listed_count;
 use c_answers::path_of;
 use c_answers::reading_count;
+use c_answers::shuffled_number;
 use c_answers::silence_of;
 use c_answers::trailing_count;
 use c_answers::weighed_silence;
@@ -511,4 +514,21 @@ pub extern "C" fn hirqazhom_find(word: i32, ends: &[u32], words: &[i32]) -> Inde
     ensures { λ r. ⌜ FormOf (λ f. Searched word (listing (now (ends .entry)) (now (words .entry))) (foundOf f)) foundIndex r ⌝ }
 {
     index_of(reading_search::find(word, ends, words))
+}
+
+// The bytes of a block of four-byte numbers by their place in the number: all first bytes, then all second, third and fourth. Gives 0; or 20, and the output
+// is unchanged, where the length is not divisible by four or the output has another.
+#[no_mangle]
+pub extern "C" fn hirqazhom_shuffle(block: &[u8], output: &mut [u8]) -> u32
+    ensures { λ r. ⌜ FormOf (λ s. Rearranged shuffled (now (block .entry)) (now (output .entry)) s (now (output .exit))) shuffledNumber r ⌝ }
+{
+    shuffled_number(shuffle::shuffle(block, output))
+}
+
+// The way back, refused likewise. Either way after the other restores every block.
+#[no_mangle]
+pub extern "C" fn hirqazhom_unshuffle(block: &[u8], output: &mut [u8]) -> u32
+    ensures { λ r. ⌜ FormOf (λ s. Rearranged unshuffled (now (block .entry)) (now (output .entry)) s (now (output .exit))) shuffledNumber r ⌝ }
+{
+    shuffled_number(shuffle::unshuffle(block, output))
 }
