@@ -78,6 +78,7 @@ mod decoder;
 mod graph;
 mod reads;
 mod refusal;
+mod shuffle;
 mod silence;
 
 pub use decoder::{Decoder, Fitted, Lengths};
@@ -86,4 +87,5 @@ pub use ffi::Config;
 pub use graph::{Graph, Tables};
 pub use reads::{find, KeptStores, Output, Path, Places, Reading, Segment, Token};
 pub use refusal::{Place, Refusal};
+pub use shuffle::{shuffle, unshuffle};
 pub use silence::{trailing_silence_frames, SilenceWeighting};
