@@ -11,7 +11,7 @@
 
 /* The calls, by the format's numbers. */
 enum {
-    GRAPH = 1, FIT, START, FRAME, KEEP, BEST, ALTERNATIVES, READINGS, RELATIVE, ACTIVE, FRAMES, SEARCH,
+    GRAPH = 1, FIT, START, FRAME, KEEP, BEST, ALTERNATIVES, READINGS, RELATIVE, ACTIVE, FRAMES, SEARCH, SHUFFLE, UNSHUFFLE,
     SILENCE_NEW = 20, SILENCE_TRACEBACK, SILENCE_DELTAS, TRAILING, SILENCE_ACTIVE
 };
 
@@ -24,7 +24,7 @@ enum { FINALS, OFFSETS, ILABELS, OLABELS, WEIGHTS, NEXTSTATES, TID2PDF, TID2PHON
 /* What is lent where a script sets no limit: more than the sample needs. An answer that needs more is refused by 11 or 15, and so differs. */
 enum { ENTRIES_MOST = 1 << 16, KEPT_MOST = 1 << 16, READINGS_MOST = 1 << 11, WORDS_MOST = 1 << 15, SEGMENTS_MOST = 1 << 10, DELTAS_MOST = 1 << 20 };
 
-/* What an output is filled with before a read. */
+/* What an output is filled with before a call. */
 enum { PATTERN = 0xa5 };
 
 /* Words of a file. */
@@ -65,7 +65,7 @@ struct driver {
     struct silence silence;
 };
 
-/* An output and its block. */
+/* An output and its block; one that is shuffled into is the block alone. */
 struct lent {
     struct hirqazhom_output out;
     unsigned char *block;
@@ -373,7 +373,7 @@ static bool untouched(const struct lent *l)
 static bool refused(struct driver *s, const struct lent *l, uint32_t number)
 {
     put(&s->answer, number);
-    must(s, number == 0 || untouched(l), "a refused read leaves the output as it was");
+    must(s, number == 0 || untouched(l), "a refused call leaves the output as it was");
     return number != 0;
 }
 
@@ -502,7 +502,7 @@ static bool decoder_call(struct driver *s, uint32_t kind, struct slice w)
     }
 }
 
-/* ---- search and silence, by the library's own calls */
+/* ---- search, shuffle and silence, by the library's own calls */
 
 static bool search_call(struct driver *s, struct slice w)
 {
@@ -519,6 +519,29 @@ static bool search_call(struct driver *s, struct slice w)
         put(&s->answer, (uint32_t)hit.index);
     free(ends);
     free(words);
+    return true;
+}
+
+/* The bytes of a block stand in its words as the words do in memory. */
+static bool shuffle_call(struct driver *s, uint32_t kind, struct slice w)
+{
+    struct slice head;
+    if (!take(&w, 2, &head) || w.len != ((size_t)head.at[1] + 3) / 4)
+        return false;
+    size_t len = head.at[1];
+    uint8_t *block = (uint8_t *)memcpy(lend(len), w.at, len);
+    struct lent l;
+    l.bytes = head.at[0];
+    l.block = (unsigned char *)memset(lend(l.bytes), PATTERN, l.bytes);
+    uint32_t number = kind == SHUFFLE ? hirqazhom_shuffle(block, len, l.block, l.bytes) : hirqazhom_unshuffle(block, len, l.block, l.bytes);
+    if (!refused(s, &l, number))
+        for (size_t i = 0; i < l.bytes; i += 4) {
+            uint32_t word;
+            memcpy(&word, l.block + i, sizeof word);
+            put(&s->answer, word);
+        }
+    free(block);
+    free(l.block);
     return true;
 }
 
@@ -655,6 +678,9 @@ static bool any_call(struct driver *s, uint32_t kind, struct slice w)
         return fit_call(s, w);
     case SEARCH:
         return search_call(s, w);
+    case SHUFFLE:
+    case UNSHUFFLE:
+        return shuffle_call(s, kind, w);
     case SILENCE_NEW:
         return silence_new_call(s, w);
     case SILENCE_TRACEBACK:

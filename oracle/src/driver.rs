@@ -2,6 +2,7 @@
 use crate::fst::{Arc, State, VectorFst, NO_STATE};
 use crate::rt;
 use crate::script::*;
+use crate::shuffle;
 use crate::silence::SilenceWeighting;
 
 /// A script that calls on what is not there, or whose record is misshapen.
@@ -471,6 +472,14 @@ impl Driver {
                 for h in hits {
                     a.u(h);
                 }
+            }
+            SHUFFLE | UNSHUFFLE => {
+                let (places, block) = shuffle::block(w).ok_or(SCRIPT_ERROR)?;
+                if block.len() % 4 != 0 || places != block.len() {
+                    return Err(20.into());
+                }
+                let out = if r.kind == SHUFFLE { shuffle::shuffled(&block) } else { shuffle::unshuffled(&block) };
+                shuffle::put(&mut a, &out);
             }
             SILENCE_NEW => {
                 shape(w.len() >= 4 && w.len() == 4 + w[3] as usize)?;

@@ -265,6 +265,20 @@ pub fn search(seed: u64) -> Vec<Rec> {
     v
 }
 
+/// Blocks to shuffle and to unshuffle, some of a length that is refused, or with an output of another.
+pub fn shuffle(seed: u64) -> Vec<Rec> {
+    let mut r = Rng(seed ^ 0x5_4aff1e);
+    let mut v = Vec::new();
+    for _ in 0..r.range(1, 6) {
+        let len = if r.chance(75) { 4 * r.below(20) } else { r.below(80) };
+        let places = if r.chance(80) { len } else { r.below(80) };
+        let mut w = vec![places as u32, len as u32];
+        w.extend((0..len.div_ceil(4)).map(|_| r.below(1 << 32) as u32));
+        v.push(rec(r.pick(&[SHUFFLE, UNSHUFFLE]), &w));
+    }
+    v
+}
+
 /// A script of silence calls, some of them refused.
 pub fn silence(seed: u64) -> Vec<Rec> {
     let mut r = Rng(seed ^ 0x51_1e4c_e000);

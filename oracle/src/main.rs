@@ -12,8 +12,11 @@ mod compare;
 mod fuzz;
 mod probe;
 mod bench;
+mod shuffle;
 #[cfg(feature = "proved")]
 mod proved;
+#[cfg(feature = "blosc")]
+mod bench_shuffle;
 
 macro_rules! copy {
     ($name:ident, $file:literal) => {
@@ -50,12 +53,14 @@ oracle genhuge SEED        the same with numbers near 2^100 (12)
 oracle genspoilt SEED      a damaged graph or setting (1 to 6)
 oracle gensilence SEED     silence calls
 oracle gensearch SEED      searches of a word
+oracle genshuffle SEED     blocks to shuffle and to unshuffle
 oracle sample DIR N CASE.. the committed sample: N scripts of each generator, and these cases
 oracle compare PROGRAM FROM TO [KIND..]   seeds FROM to TO of four generators against a program; without these kinds
-oracle against FROM TO     seeds FROM to TO of six generators against the proved library, in one process (built with --features proved)
+oracle against FROM TO     seeds FROM to TO of seven generators against the proved library, in one process (built with --features proved)
 oracle probe               experiments on limits and worst cases
 oracle fuzz SEED COUNT [DIR]   ascending against unmodified, and the refusing copy's checks
-oracle bench [STATES]"
+oracle bench [STATES]
+oracle bench-shuffle       the proved shuffle, a plain loop and c-blosc's (built with --features proved,blosc)"
     );
     std::process::exit(2)
 }
@@ -135,6 +140,7 @@ fn real() {
         Some("gentight") => print!("{}", script::to_text(&gen::tight(num(1).unwrap_or(1)).script(), flag("--floats"))),
         Some("genhuge") => print!("{}", script::to_text(&gen::huge(num(1).unwrap_or(1)).script(), flag("--floats"))),
         Some("gensearch") => print!("{}", script::to_text(&gen::search(num(1).unwrap_or(1)), flag("--floats"))),
+        Some("genshuffle") => print!("{}", script::to_text(&gen::shuffle(num(1).unwrap_or(1)), flag("--floats"))),
         Some("sample") if args.len() >= 3 => sample::run(&args[1], num(2).unwrap_or(100), &args[3..]),
         Some("compare") if args.len() >= 4 => {
             let without: Vec<u32> = args[4..].iter().filter_map(|a| a.parse().ok()).collect();
@@ -145,6 +151,8 @@ fn real() {
         Some("fuzz") => fuzz::run(num(1).unwrap_or(1), num(2).unwrap_or(1000), args.get(3).map_or("cases", |s| s)),
         Some("probe") => probe::run(),
         Some("bench") => bench::run(num(1)),
+        #[cfg(feature = "blosc")]
+        Some("bench-shuffle") => bench_shuffle::run(),
         _ => usage(),
     }
 }

@@ -1,7 +1,7 @@
--- `replay_search::put_found` meets its contract: the index is asked to be a word.
+-- `replay_stateless::searches::put_found` meets its contract: the index is asked to be a word.
 use borrow.Author.Needs.{needs}
-use Rattle.replay_search.proofs.put_found.Statement.{statement}
-use Rattle.replay_search.proofs.put_found.Tie as tie
+use Rattle.replay_stateless.proofs.searches.put_found.Statement.{statement}
+use Rattle.replay_stateless.proofs.searches.put_found.Tie as tie
 
 put-word-requires : tie.Need-put-word-requires
 put-word-requires c κs = search needs

@@ -1,48 +1,18 @@
-// Reads a script of searches from standard input and writes their answers, both in the binary form of oracle/FORMAT.md.
-use libc::STDIN_FILENO;
+// Searches of a word in a reading list.
+use crate::say_fault;
 use libc::STDOUT_FILENO;
 use reading_search::Found;
-use script::NextRecord;
 use script::Record;
 ghost use Prim.Native.Nat.{_+_, _^_, _≤_};
 ghost use Rattle.reading_search.specs.Found.{Below};
 ghost use Rattle.script.specs.Words.{wordCount};
-ghost use Rattle.replay_search.specs.Shape.{FillUp};
+ghost use Rattle.replay_stateless.specs.Shape.{FillUp};
 
 // The kind of a search.
-const SEARCH: u32 = 12;
+pub(crate) const SEARCH: u32 = 12;
 
 // The words of its payload beside the two lists: the word, and the length of each list.
 const FIXED: usize = 3;
-
-// The whole script is read at once. One that fills the buffer may not have ended, and gets a fault for its only answer.
-fn main() {
-    let mut input = io::large_buffer();
-    let n = io::read_full(STDIN_FILENO, &mut input);
-    if n < 65536 {
-        replay(&input[..n]);
-    } else {
-        say_fault(0);
-    }
-}
-
-// Answers each record in turn, up to the end or to one that is cut short.
-fn replay(bytes: &[u8]) {
-    let mut at = 0;
-    loop {
-        match script::record_at(bytes, at) {
-            NextRecord::Whole(r) => {
-                at = r.start + r.count;
-                answer(bytes, r);
-            }
-            NextRecord::Short => {
-                say_fault(0);
-                return;
-            }
-            NextRecord::End => return,
-        }
-    }
-}
 
 // The lengths of a search's two lists.
 enum Lists {
@@ -50,18 +20,13 @@ enum Lists {
     Misshapen,
 }
 
-fn answer(bytes: &[u8], r: Record)
+pub(crate) fn answer(bytes: &[u8], r: Record)
     requires { ⌜ r .start + r .count ≤ wordCount (now bytes) ⌝ }
 {
-    let kind = r.kind;
-    if kind != SEARCH {
-        say_fault(kind);
-        return;
-    }
     let start = r.start;
     match lists_of(bytes, start, r.count) {
         Lists::Lengths(n, m) => search(bytes, start, n, m),
-        Lists::Misshapen => say_fault(kind),
+        Lists::Misshapen => say_fault(SEARCH),
     }
 }
 
@@ -136,9 +101,4 @@ fn put_found(out: &mut [u8], found: Found) -> usize
             12
         }
     }
-}
-
-fn say_fault(kind: u32) {
-    let out = script::fault(kind);
-    io::write_all(STDOUT_FILENO, &out);
 }

@@ -1,4 +1,4 @@
--- `replay_search::replay` is safe and ends: each whole record takes at least its header's two words of those that are left.
+-- `replay_stateless::replay` is safe and ends: each whole record takes at least its header's two words of those that are left.
 use mathlib.Core.Path.{_≡_, sym, _∙_}
 use Prim.Native.Nat.{_+_, _-_, _≤_}
 use native.Mathlib.Omega.{arith}
@@ -6,8 +6,8 @@ use borrow.Author.Needs.{needs}
 use denote.Ref.{now}
 use Rattle.script.specs.Words.{wordCount}
 use Rattle.script.specs.Records.{whole-within}
-use Rattle.replay_search.proofs.replay.Statement.{statement}
-use Rattle.replay_search.proofs.replay.Tie as tie
+use Rattle.replay_stateless.proofs.replay.Statement.{statement}
+use Rattle.replay_stateless.proofs.replay.Tie as tie
 
 abbrev Inv-loop : tie.InvT-loop
 Inv-loop bytes at₀ at = Unit {0}

@@ -1,10 +1,10 @@
--- `replay_search::say_found` is safe: an answer has at most 20 bytes.
+-- `replay_stateless::searches::say_found` is safe: an answer has at most 20 bytes.
 use mathlib.Core.Path.{sym}
 use native.Mathlib.Omega.{arith}
 use lib.Seq.{length-take-le}
 use borrow.Author.Needs.{needs}
-use Rattle.replay_search.proofs.say_found.Statement.{statement}
-use Rattle.replay_search.proofs.say_found.Tie as tie
+use Rattle.replay_stateless.proofs.searches.say_found.Statement.{statement}
+use Rattle.replay_stateless.proofs.searches.say_found.Tie as tie
 
 slice-aggregate-put-found : tie.Need-slice-aggregate-put-found
 slice-aggregate-put-found c = search needs

@@ -1,4 +1,4 @@
--- `replay_search::search` is safe: the payload holds both lists, and each was read into an array with room for it.
+-- `replay_stateless::searches::search` is safe: the payload holds both lists, and each was read into an array with room for it.
 use mathlib.Core.Path.{sym}
 use Prim.Native.Nat.{_^_, _≤_}
 use native.Mathlib.Omega.{arith}
@@ -8,8 +8,8 @@ use lib.Seq.{length-take-le}
 use Rattle.reading_search.specs.Found.{found-below}
 use Rattle.script.specs.Words.{filled-room}
 use borrow.Author.Needs.{needs}
-use Rattle.replay_search.proofs.search.Statement.{statement}
-use Rattle.replay_search.proofs.search.Tie as tie
+use Rattle.replay_stateless.proofs.searches.search.Statement.{statement}
+use Rattle.replay_stateless.proofs.searches.search.Tie as tie
 
 add-fill-u32 : tie.Need-add-fill-u32
 add-fill-u32 c = search needs
