@@ -66,6 +66,9 @@ pub const LISTS_FULL: u32 = 15;
 // A block to shuffle or unshuffle whose length is not divisible by four, or an output of another length.
 pub const BAD_BLOCK: u32 = 20;
 
+// Courses, or the frames in which they are knitted, outside their range, or a frame above its limit.
+pub const BAD_COURSE: u32 = 22;
+
 // ---- the limits
 
 // The states of a graph.
@@ -85,6 +88,9 @@ pub const MAX_LISTED: usize = 64;
 
 // The frames since a start.
 pub const MAX_FRAMES: u32 = 65_536;
+
+// The courses, and the frames in which they are knitted, of a frame's course.
+pub const MAX_COURSES: u32 = 65_535;
 
 // The decoder frames of a silence call.
 pub const MAX_SILENCE_FRAMES: usize = 65_536;
