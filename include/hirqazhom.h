@@ -3,7 +3,7 @@
    A board uses the second part: one struct for a decoder, and functions over it. The first part are the library's own calls, which the second is written with.
    There a slice is a pointer and its length in elements. A pointer to const is read, or lent for its length alone; any other is written, and what a call writes overlaps
    with nothing else that it is lent. Each call gets the decoder's value and the stores that the last one left; only `hirqazhom_build`, `_fit`, `_set_keep`,
-   `_frames_decoded`, the silence calls, `_find`, `_shuffle` and `_unshuffle` take anything, and the other calls check nothing of this. */
+   `_frames_decoded`, the silence calls, `_find`, `_shuffle`, `_unshuffle` and `_course` take anything, and the other calls check nothing of this. */
 #ifndef HIRQAZHOM_H
 #define HIRQAZHOM_H
 
@@ -69,6 +69,9 @@ extern "C" {
 /* A block to shuffle or unshuffle whose length is not divisible by four, or an output of another length. */
 #define HIRQAZHOM_BAD_BLOCK 20u
 
+/* Courses, or the frames in which they are knitted, outside their range, or a frame above its limit. */
+#define HIRQAZHOM_BAD_COURSE 22u
+
 /* The states of a graph. */
 #define HIRQAZHOM_MAX_STATES 65535u
 
@@ -86,6 +89,9 @@ extern "C" {
 
 /* The frames since a start. */
 #define HIRQAZHOM_MAX_FRAMES 65536u
+
+/* The courses, and the frames in which they are knitted, of a frame's course. */
+#define HIRQAZHOM_MAX_COURSES 65535u
 
 /* The decoder frames of a silence call. */
 #define HIRQAZHOM_MAX_SILENCE_FRAMES 65536u
@@ -212,6 +218,13 @@ struct hirqazhom_index {
     uint64_t index;
 };
 
+/* The course at a frame, and the remainder. Both are 0 after a refusal. */
+struct hirqazhom_course_at {
+    uint32_t number;
+    uint32_t course;
+    uint32_t remainder;
+};
+
 /* Sizes and offsets are those of the library. */
 HIRQAZHOM_ASSERT(verdict, sizeof(struct hirqazhom_verdict) == 16
     && offsetof(struct hirqazhom_verdict, number) == 0
@@ -266,6 +279,10 @@ HIRQAZHOM_ASSERT(index, sizeof(struct hirqazhom_index) == 16
     && offsetof(struct hirqazhom_index, number) == 0
     && offsetof(struct hirqazhom_index, found) == 4
     && offsetof(struct hirqazhom_index, index) == 8);
+HIRQAZHOM_ASSERT(course_at, sizeof(struct hirqazhom_course_at) == 12
+    && offsetof(struct hirqazhom_course_at, number) == 0
+    && offsetof(struct hirqazhom_course_at, course) == 4
+    && offsetof(struct hirqazhom_course_at, remainder) == 8);
 
 /* Whether a graph is accepted: refused by 1 to 5, with the arc or the state. */
 struct hirqazhom_verdict hirqazhom_build(
@@ -488,6 +505,10 @@ uint32_t hirqazhom_shuffle(const uint8_t *block, size_t block_len, uint8_t *outp
 
 /* The way back, refused likewise. Either way after the other restores every block. */
 uint32_t hirqazhom_unshuffle(const uint8_t *block, size_t block_len, uint8_t *output, size_t output_len);
+
+/* The course on the needles at a frame, where `courses` are knitted in `frames`: the whole part of frame * courses / frames, and the remainder. Refused by 22 where
+   `courses` or `frames` is outside 1 to 65,535, or the frame above 65,536. */
+struct hirqazhom_course_at hirqazhom_course(uint32_t frame, uint32_t courses, uint32_t frames);
 
 /* ---- end of what tools/declare.py writes ---- */
 

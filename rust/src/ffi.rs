@@ -51,6 +51,9 @@ pub mod constants {
     /// A block to shuffle or unshuffle whose length is not divisible by four, or an output of another length.
     pub const BAD_BLOCK: u32 = 20;
 
+    /// Courses, or the frames in which they are knitted, outside their range, or a frame above its limit.
+    pub const BAD_COURSE: u32 = 22;
+
     /// The states of a graph.
     pub const MAX_STATES: usize = 65_535;
 
@@ -68,6 +71,9 @@ pub mod constants {
 
     /// The frames since a start.
     pub const MAX_FRAMES: u32 = 65_536;
+
+    /// The courses, and the frames in which they are knitted, of a frame's course.
+    pub const MAX_COURSES: u32 = 65_535;
 
     /// The decoder frames of a silence call.
     pub const MAX_SILENCE_FRAMES: usize = 65_536;
@@ -217,6 +223,15 @@ pub struct Index {
     pub index: u64,
 }
 
+/// The course at a frame, and the remainder. Both are 0 after a refusal.
+#[repr(C)]
+#[derive(Clone, Copy, Debug, Default, PartialEq)]
+pub struct CourseAt {
+    pub number: u32,
+    pub course: u32,
+    pub remainder: u32,
+}
+
 // Sizes and offsets are those of the library.
 const _: () = {
     assert!(size_of::<Verdict>() == 16);
@@ -272,6 +287,10 @@ const _: () = {
     assert!(offset_of!(Index, number) == 0);
     assert!(offset_of!(Index, found) == 4);
     assert!(offset_of!(Index, index) == 8);
+    assert!(size_of::<CourseAt>() == 12);
+    assert!(offset_of!(CourseAt, number) == 0);
+    assert!(offset_of!(CourseAt, course) == 4);
+    assert!(offset_of!(CourseAt, remainder) == 8);
 };
 
 extern "C" {
@@ -618,4 +637,7 @@ extern "C" {
     pub fn hirqazhom_shuffle(block: *const u8, block_len: usize, output: *mut u8, output_len: usize) -> u32;
     /// The way back, refused likewise. Either way after the other restores every block.
     pub fn hirqazhom_unshuffle(block: *const u8, block_len: usize, output: *mut u8, output_len: usize) -> u32;
+    /// The course on the needles at a frame, where `courses` are knitted in `frames`: the whole part of frame * courses / frames, and the remainder. Refused by 22 where
+    /// `courses` or `frames` is outside 1 to 65,535, or the frame above 65,536.
+    pub fn hirqazhom_course(frame: u32, courses: u32, frames: u32) -> CourseAt;
 }

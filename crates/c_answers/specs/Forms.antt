@@ -30,6 +30,8 @@ use Rattle.reading_search.specs.declared.Found.{Found}
 use Rattle.reading_search.specs.declared.Found.the-variants.{At, Nothing, Refused as SearchRefused}
 use Rattle.shuffle.specs.declared.Shuffled.{Shuffled}
 use Rattle.shuffle.specs.declared.Shuffled.the-variants.{Done as ShuffleDone, Refused as ShuffleRefused}
+use Rattle.courses.specs.declared.Course.{Course}
+use Rattle.courses.specs.declared.Course.the-variants.{At as AtCourse, Refused as CourseRefused}
 use Rattle.c_answers.specs.declared.Verdict.{Verdict}
 use Rattle.c_answers.specs.declared.Fitting.{Fitting}
 use Rattle.c_answers.specs.declared.Answer.{Answer}
@@ -37,6 +39,7 @@ use Rattle.c_answers.specs.declared.Path.{Path}
 use Rattle.c_answers.specs.declared.Count.{Count}
 use Rattle.c_answers.specs.declared.Silence.{Silence}
 use Rattle.c_answers.specs.declared.Index.{Index}
+use Rattle.c_answers.specs.declared.CourseAt.{CourseAt}
 
 -- r tells an answer that is as the call promises
 pub record FormOf {A B : Type 0} (P : A → Type 0) (form : A → B) (r : B) : Type 0 where
@@ -134,3 +137,7 @@ foundIndex (SearchRefused n) = noIndex n
 abbrev pub shuffledNumber : Shuffled → ℕ
 shuffledNumber ShuffleDone = 0
 shuffledNumber (ShuffleRefused n) = n
+
+abbrev pub courseNumbers : Course → CourseAt
+courseNumbers (AtCourse c r) = record { number = 0; course = c; remainder = r }
+courseNumbers (CourseRefused n) = record { number = n; course = 0; remainder = 0 }

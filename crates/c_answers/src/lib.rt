@@ -1,6 +1,7 @@
 // What an answer is told by in C: an enum has no form there, so a struct of numbers tells it, whose `number` is 0 or the refusal's.
 ghost use mathlib.Core.Path.{_≡_};
-ghost use Rattle.c_answers.specs.Forms.{accepted, noDecoder, verdictOf, answerOf, fittedAnswer, builtVerdict, noPath, pathOf, noCount, countOf, listedCount, readingCount, noSilence, silenceAt, silenceOf, weighedOf, trailingCount, noIndex, foundIndex, shuffledNumber};
+ghost use Rattle.c_answers.specs.Forms.{accepted, noDecoder, verdictOf, answerOf, fittedAnswer, builtVerdict, noPath, pathOf, noCount, countOf, listedCount, readingCount, noSilence, silenceAt, silenceOf, weighedOf, trailingCount, noIndex, foundIndex, shuffledNumber, courseNumbers};
+use courses::Course;
 use cutoff::Config;
 use decoder::Called;
 use decoder::Decoder;
@@ -90,6 +91,14 @@ pub struct Index {
     pub number: u32,
     pub found: bool,
     pub index: u64,
+}
+
+// The course at a frame, and the remainder. Both are 0 after a refusal.
+#[repr(C)]
+pub struct CourseAt {
+    pub number: u32,
+    pub course: u32,
+    pub remainder: u32,
 }
 
 // ---- the forms of the answers
@@ -355,5 +364,22 @@ pub fn shuffled_number(s: Shuffled) -> u32
     match s {
         Shuffled::Done => 0,
         Shuffled::Refused(n) => n,
+    }
+}
+
+pub fn course_numbers(c: Course) -> CourseAt
+    ensures { λ r. ⌜ r ≡ courseNumbers c ⌝ }
+{
+    match c {
+        Course::At { course, remainder } => CourseAt {
+            number: 0,
+            course,
+            remainder,
+        },
+        Course::Refused(n) => CourseAt {
+            number: n,
+            course: 0,
+            remainder: 0,
+        },
     }
 }

@@ -1,6 +1,6 @@
-// The entry points for C: each is a call of `decoder`, `decoder_reads`, `decoder_readings`, `fst`, `silence_weighting`, `reading_search` or `shuffle`, with the contract of that call,
-// and its answer told by a struct or a number of `c_answers`. `python3 tools/declare.py` writes what C and Rust see of this file, comments included, into `include/hirqazhom.h` and
-// `rust/src/ffi.rs`.
+// The entry points for C: each is a call of `decoder`, `decoder_reads`, `decoder_readings`, `fst`, `silence_weighting`, `reading_search`, `shuffle` or `courses`, with the contract of
+// that call, and its answer told by a struct or a number of `c_answers`. `python3 tools/declare.py` writes what C and Rust see of this file, comments included, into
+// `include/hirqazhom.h` and `rust/src/ffi.rs`.
 ghost use mathlib.Core.Path.{_≡_};
 ghost use Prim.Native.Nat.{_-_, _/_};
 ghost use mathlib.Core.List.{[], _∷_};
@@ -18,12 +18,14 @@ ghost use Rattle.fst.specs.Answer.{graphOf, buildOf};
 ghost use Rattle.silence_weighting.specs.Answers.{NewRight, ActiveRight, TracebackRight, DeltasRight, TrailingRight};
 ghost use Rattle.reading_search.specs.Found.{foundOf, listing};
 ghost use Rattle.shuffle.specs.Block.{shuffled, unshuffled, Rearranged};
+ghost use Rattle.courses.specs.Course.{courseAt};
 ghost use Rattle.decoder.specs.Represents.{Left};
 ghost use Rattle.decoder.specs.Contracts.{StartIs, FrameIs, keepOf, FitIs, FrameLeft, ActiveLeft, FinalsLeft, RelativeLeft, AlternativesLeft, ReadingsLeft, ActiveIs, RelativeCostIs, BestPathIs, AlternativesIs, ReadingsIs};
 ghost use Rattle.decoder.specs.Fit.{lengthsOf};
-ghost use Rattle.c_answers.specs.Forms.{FormOf, answerOf, fittedAnswer, builtVerdict, pathOf, listedCount, readingCount, silenceOf, weighedOf, trailingCount, foundIndex, shuffledNumber};
+ghost use Rattle.c_answers.specs.Forms.{FormOf, answerOf, fittedAnswer, builtVerdict, pathOf, listedCount, readingCount, silenceOf, weighedOf, trailingCount, foundIndex, shuffledNumber, courseNumbers};
 use c_answers::Answer;
 use c_answers::Count;
+use c_answers::CourseAt;
 use c_answers::Fitting;
 use c_answers::Index;
 use c_answers::Path;
@@ -31,6 +33,7 @@ use c_answers::Silence;
 use c_answers::Verdict;
 use c_answers::answer_of;
 use c_answers::built_verdict;
+use c_answers::course_numbers;
 use c_answers::fitted_answer;
 use c_answers::index_of;
 use c_answers::listed_count;
@@ -531,4 +534,13 @@ pub extern "C" fn hirqazhom_unshuffle(block: &[u8], output: &mut [u8]) -> u32
     ensures { λ r. ⌜ FormOf (λ s. Rearranged unshuffled (now (block .entry)) (now (output .entry)) s (now (output .exit))) shuffledNumber r ⌝ }
 {
     shuffled_number(shuffle::unshuffle(block, output))
+}
+
+// The course on the needles at a frame, where `courses` are knitted in `frames`: the whole part of frame * courses / frames, and the remainder. Refused by 22 where
+// `courses` or `frames` is outside 1 to 65,535, or the frame above 65,536.
+#[no_mangle]
+pub extern "C" fn hirqazhom_course(frame: u32, courses: u32, frames: u32) -> CourseAt
+    ensures { λ r. ⌜ FormOf (λ c. c ≡ courseAt frame courses frames) courseNumbers r ⌝ }
+{
+    course_numbers(courses::course_at(frame, courses, frames))
 }
