@@ -74,6 +74,7 @@ fn zeros<T: Number>(each: usize, places: usize) -> Vec<T> {
     }
 }
 
+mod courses;
 mod decoder;
 mod graph;
 mod reads;
@@ -81,6 +82,7 @@ mod refusal;
 mod shuffle;
 mod silence;
 
+pub use courses::{course, Course};
 pub use decoder::{Decoder, Fitted, Lengths};
 pub use ffi::constants::{self, NO_STATE};
 pub use ffi::Config;
