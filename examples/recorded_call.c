@@ -31,7 +31,9 @@ int main(void)
     for (size_t i = 0; i < heard.num_words; i++) {
         uint32_t start = heard.frames[i];
         uint32_t end = i + 1 < heard.num_words ? heard.frames[i + 1] : hirqazhom_decoder_frames_decoded(&decoder);
-        printf("frames %u..%u  course %u  %s\n", start, end, start * COURSES / COURSE_FRAMES, names[heard.words[i]]);
+        /* not refused: both numbers are in range, and so is the frame of every word */
+        struct hirqazhom_course_at at = hirqazhom_course(start, COURSES, COURSE_FRAMES);
+        printf("frames %u..%u  course %u  %s\n", start, end, at.course, names[heard.words[i]]);
     }
     return path.found ? 0 : 1;
 }

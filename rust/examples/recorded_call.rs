@@ -48,9 +48,10 @@ fn main() -> Result<(), Refusal> {
         println!("nothing was heard");
         return Ok(());
     };
+    let courses = path.courses(COURSES, COURSE_FRAMES)?;
     for (i, &word) in path.words.iter().enumerate() {
         let end = path.frames.get(i + 1).copied().unwrap_or(decoder.frames_decoded());
-        println!("frames {}..{}  course {}  {}", path.frames[i], end, path.frames[i] * COURSES / COURSE_FRAMES, WORDS[word as usize]);
+        println!("frames {}..{}  course {}  {}", path.frames[i], end, courses[i].course, WORDS[word as usize]);
     }
     Ok(())
 }

@@ -9,6 +9,7 @@ ghost use Rattle.stores.specs.Rep.{lent};
 ghost use Rattle.nonemitting.specs.Expand.{graphTables};
 ghost use Rattle.decoder.specs.Contracts.{FinalsLeft};
 ghost use Rattle.listen.specs.Held.{Hearing};
+use courses::Course;
 use cutoff::Config;
 use decoder::Called;
 use decoder::Decoder;
@@ -32,9 +33,9 @@ const SOUNDS: u32 = 4;
 const FRAMES: u32 = 8;
 
 // The machine knits so many courses in so many frames.
-const COURSES: u64 = 3;
+const COURSES: u32 = 3;
 
-const COURSE_FRAMES: u64 = 4;
+const COURSE_FRAMES: u32 = 4;
 
 // How often the call is heard.
 const TIMES: u32 = 3;
@@ -303,21 +304,26 @@ fn next_start(frames: &[u32], i: usize, n: usize, end: u32) -> u32
     if i + 1 < n { frames[i + 1] } else { end }
 }
 
-// The course on the needles in a frame.
-fn course_at(frame: u32) -> u64 {
-    frame as u64 * COURSES / COURSE_FRAMES
-}
-
 fn write_word(word: i32, from: u32, to: u32) {
     write_text(b"  frames ");
     io::print_decimal(STDOUT_FILENO, from as u64);
     write_text(b"..");
     io::print_decimal(STDOUT_FILENO, to as u64);
     write_text(b"  course ");
-    io::print_decimal(STDOUT_FILENO, course_at(from));
+    write_course(from);
     write_text(b"  ");
     write_name(word);
     write_text(b"\n");
+}
+
+// The course on the needles in a frame.
+fn write_course(frame: u32) {
+    match courses::course_at(frame, COURSES, COURSE_FRAMES) {
+        Course::At { course, .. } => {
+            io::print_decimal(STDOUT_FILENO, course as u64);
+        }
+        Course::Refused(_) => write_text(b"unknown"),
+    }
 }
 
 fn write_name(word: i32) {
