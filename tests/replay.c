@@ -11,7 +11,7 @@
 
 /* The calls, by the format's numbers. */
 enum {
-    GRAPH = 1, FIT, START, FRAME, KEEP, BEST, ALTERNATIVES, READINGS, RELATIVE, ACTIVE, FRAMES, SEARCH, SHUFFLE, UNSHUFFLE,
+    GRAPH = 1, FIT, START, FRAME, KEEP, BEST, ALTERNATIVES, READINGS, RELATIVE, ACTIVE, FRAMES, SEARCH, SHUFFLE, UNSHUFFLE, COURSE,
     SILENCE_NEW = 20, SILENCE_TRACEBACK, SILENCE_DELTAS, TRAILING, SILENCE_ACTIVE
 };
 
@@ -502,7 +502,7 @@ static bool decoder_call(struct driver *s, uint32_t kind, struct slice w)
     }
 }
 
-/* ---- search, shuffle and silence, by the library's own calls */
+/* ---- search, shuffle, course and silence, by the library's own calls */
 
 static bool search_call(struct driver *s, struct slice w)
 {
@@ -542,6 +542,19 @@ static bool shuffle_call(struct driver *s, uint32_t kind, struct slice w)
         }
     free(block);
     free(l.block);
+    return true;
+}
+
+static bool course_call(struct driver *s, struct slice w)
+{
+    if (w.len != 3)
+        return false;
+    struct hirqazhom_course_at c = hirqazhom_course(w.at[0], w.at[1], w.at[2]);
+    put(&s->answer, c.number);
+    if (c.number == 0) {
+        put(&s->answer, c.course);
+        put(&s->answer, c.remainder);
+    }
     return true;
 }
 
@@ -681,6 +694,8 @@ static bool any_call(struct driver *s, uint32_t kind, struct slice w)
     case SHUFFLE:
     case UNSHUFFLE:
         return shuffle_call(s, kind, w);
+    case COURSE:
+        return course_call(s, w);
     case SILENCE_NEW:
         return silence_new_call(s, w);
     case SILENCE_TRACEBACK:

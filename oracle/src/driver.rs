@@ -1,4 +1,5 @@
 //! Runs a script against one of the decoder copies and judges the refusals of document 01.
+use crate::courses;
 use crate::fst::{Arc, State, VectorFst, NO_STATE};
 use crate::rt;
 use crate::script::*;
@@ -480,6 +481,11 @@ impl Driver {
                 }
                 let out = if r.kind == SHUFFLE { shuffle::shuffled(&block) } else { shuffle::unshuffled(&block) };
                 shuffle::put(&mut a, &out);
+            }
+            COURSE => {
+                shape(w.len() == 3)?;
+                let (course, remainder) = courses::course(w[0], w[1], w[2]).ok_or(22)?;
+                a.u(course as usize).u(remainder as usize);
             }
             SILENCE_NEW => {
                 shape(w.len() >= 4 && w.len() == 4 + w[3] as usize)?;

@@ -1,4 +1,5 @@
 //! Random cases: small graphs where ties are frequent.
+use crate::courses::CORNERS;
 use crate::driver::{Fit, MAX_RECORDS, NO_LIMIT};
 use crate::script::*;
 
@@ -277,6 +278,13 @@ pub fn shuffle(seed: u64) -> Vec<Rec> {
         v.push(rec(r.pick(&[SHUFFLE, UNSHUFFLE]), &w));
     }
     v
+}
+
+/// Courses of frames, some at the corners of their ranges.
+pub fn course(seed: u64) -> Vec<Rec> {
+    let mut r = Rng(seed ^ 0xc0_425e);
+    let one = |r: &mut Rng| if r.chance(20) { r.pick(&CORNERS) } else { r.below(65_536) as u32 };
+    (0..r.range(1, 6)).map(|_| rec(COURSE, &[one(&mut r), one(&mut r), one(&mut r)])).collect()
 }
 
 /// A script of silence calls, some of them refused.

@@ -1,7 +1,9 @@
-// Reads a script of calls that keep nothing between them, searches and shuffles, from standard input and writes their answers, both in the binary form of oracle/FORMAT.md.
+// Reads a script of calls that keep nothing between them, searches, shuffles and courses, from standard input and writes their answers, both in the binary form of oracle/FORMAT.md.
+mod course_calls;
 mod searches;
 mod shuffles;
 
+use course_calls::COURSE;
 use libc::STDIN_FILENO;
 use libc::STDOUT_FILENO;
 use script::NextRecord;
@@ -48,8 +50,18 @@ fn answer(bytes: &[u8], r: Record)
     match kind {
         SEARCH => searches::answer(bytes, r),
         SHUFFLE | UNSHUFFLE => shuffles::answer(bytes, r),
+        COURSE => course_calls::answer(bytes, r),
         _ => say_fault(kind),
     }
+}
+
+// The words of an answer up to the refusal's number.
+fn say(kind: u32, count: u32, number: u32) {
+    let mut out = [0u8; 12];
+    script::put_word(&mut out, 0, kind);
+    script::put_word(&mut out, 1, count);
+    script::put_word(&mut out, 2, number);
+    io::write_all(STDOUT_FILENO, &out);
 }
 
 fn say_fault(kind: u32) {

@@ -1,4 +1,5 @@
 // Shuffles of a block, and the way back.
+use crate::say;
 use crate::say_fault;
 use libc::STDOUT_FILENO;
 use script::Record;
@@ -66,13 +67,4 @@ fn rearrange(kind: u32, block: &[u8], output: &mut [u8]) -> Shuffled {
         return shuffle::shuffle(block, output);
     }
     shuffle::unshuffle(block, output)
-}
-
-// The words of an answer up to the refusal's number.
-fn say(kind: u32, count: u32, number: u32) {
-    let mut out = [0u8; 12];
-    script::put_word(&mut out, 0, kind);
-    script::put_word(&mut out, 1, count);
-    script::put_word(&mut out, 2, number);
-    io::write_all(STDOUT_FILENO, &out);
 }
