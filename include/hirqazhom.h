@@ -493,7 +493,7 @@ struct hirqazhom_count hirqazhom_trailing_silence_frames(
     const uint32_t *starts, size_t starts_len,
     const uint32_t *ends, size_t ends_len);
 
-/* Some reading that has the word. The words of reading i end before `ends[i]`. Refused by 11 where ends fall or pass the words. */
+/* The first reading that has the word, counted from 0. The words of reading i end before `ends[i]`. Refused by 11 where ends fall or pass the words. */
 struct hirqazhom_index hirqazhom_find(
     int32_t word,
     const uint32_t *ends, size_t ends_len,

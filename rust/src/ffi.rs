@@ -630,7 +630,7 @@ extern "C" {
         ends: *const u32,
         ends_len: usize,
     ) -> Count;
-    /// Some reading that has the word. The words of reading i end before `ends[i]`. Refused by 11 where ends fall or pass the words.
+    /// The first reading that has the word, counted from 0. The words of reading i end before `ends[i]`. Refused by 11 where ends fall or pass the words.
     pub fn hirqazhom_find(word: i32, ends: *const u32, ends_len: usize, words: *const i32, words_len: usize) -> Index;
     /// The bytes of a block of four-byte numbers by their place in the number: all first bytes, then all second, third and fourth. Gives 0; or 20, and the output
     /// is unchanged, where the length is not divisible by four or the output has another.

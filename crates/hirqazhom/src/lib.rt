@@ -5,7 +5,7 @@ ghost use mathlib.Core.Path.{_≡_};
 ghost use Prim.Native.Nat.{_-_, _/_};
 ghost use mathlib.Core.List.{[], _∷_};
 ghost use lib.ListN.{length};
-ghost use Rattle.model.specs.Search.{Searched};
+ghost use Rattle.model.specs.Search.{firstReading};
 ghost use Rattle.stores.specs.Rep.{lent};
 ghost use Rattle.nonemitting.specs.Expand.{graphTables};
 ghost use Rattle.traceback.specs.Right.{parts};
@@ -511,10 +511,10 @@ pub extern "C" fn hirqazhom_trailing_silence_frames(
     trailing_count(silence_weighting::trailing_silence_frames(silence_phones, phones, starts, ends))
 }
 
-// Some reading that has the word. The words of reading i end before `ends[i]`. Refused by 11 where ends fall or pass the words.
+// The first reading that has the word, counted from 0. The words of reading i end before `ends[i]`. Refused by 11 where ends fall or pass the words.
 #[no_mangle]
 pub extern "C" fn hirqazhom_find(word: i32, ends: &[u32], words: &[i32]) -> Index
-    ensures { λ r. ⌜ FormOf (λ f. Searched word (listing (now (ends .entry)) (now (words .entry))) (foundOf f)) foundIndex r ⌝ }
+    ensures { λ r. ⌜ FormOf (λ f. foundOf f ≡ firstReading word (listing (now (ends .entry)) (now (words .entry)))) foundIndex r ⌝ }
 {
     index_of(reading_search::find(word, ends, words))
 }

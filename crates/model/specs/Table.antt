@@ -5,11 +5,11 @@ use mathlib.Core.Bool.{true, false}
 use mathlib.Core.Option.{Option, none, some}
 use mathlib.Core.List.{List, [], _∷_, map}
 use lib.IntN.{ℤ, pos, negsuc}
-use lib.ListN.{length, replicate}
+use lib.ListN.{replicate}
 use lib.Ieee.{Float, nan, inf, fin, add, sub, mul, neg, lt, le, eq, ne, ofBits}
 use Rattle.real32.specs.Small.{tame}
 use Rattle.real32.specs.Least.{fmin}
-use Rattle.model.specs.Basics.{0f, 1f, ∞, refuse, Outcome, ok, refused, Place, nowhere, atArc, atState, atFrames, Refusal}
+use Rattle.model.specs.Basics.{0f, 1f, ∞, Outcome, ok, refused, Place, nowhere, atArc, atState, atFrames, Refusal}
 use Rattle.model.specs.Graph.{Graph, NO-STATE, arcAt, arcsOf, hasEps, shapeWrong, startWrong, labelWrong, weightWrong, finalWrong, checkArc, checkGraph}
 use Rattle.model.specs.Path.{links, wordsBack, above, keptWithin, worthKeeping, records, live, Limits, fullAt, unlimited}
 use Rattle.model.specs.Cutoff.{Config, getCutoff}
@@ -19,7 +19,7 @@ use Rattle.model.specs.Reads.{Segment, Traced, rankOne, rankFrom, ranked
 use Rattle.model.specs.Hash.{hashWord}
 use Rattle.model.specs.Readings.{onTop, byWay, cheapest, below, visited, heads, keptOf, keptMap, readOrder, expanded, readings}
 use Rattle.model.specs.Silence.{SilenceWeighting, weightingWrong, newSilence, badSegments, tooMany, told, computeCurrentTraceback, windowWeights, deltasOf, getDeltaWeights, trailingSilenceFrames}
-use Rattle.model.specs.Search.{Listing, partsWrong}
+use Rattle.model.specs.Search.{Listing, firstReading}
 use Rattle.model.specs.Calls.{Sizes, bestPathRead, alternativesRead, readingsRead, numActiveRead, framesDecodedRead, Call, startCall, frameCall, keepCall, readCall, Reading, Answer, refusalAnswer, doneAnswer, pathAnswer, pathsAnswer, readingsAnswer, countAnswer, short, readBest, readAlternatives, readReadings, readAnswer, call, toldCall, answersFrom, answers}
 
 -- ---- questions, and what they show
@@ -41,7 +41,7 @@ pub data Shown : Type 0 where
   weighedShown : List Weighed → Shown
   builtShown : Option Refusal → Shown
   fittedShown : Option ℕ → Shown
-  searchedShown : Option ℕ → Shown
+  searchedShown : Outcome (Option ℕ) → Shown
 
 pub data Question : Type 0 where
   decodeIt : Graph → Config → List Call → Question
@@ -49,7 +49,7 @@ pub data Question : Type 0 where
   weighIt : List ℤ → Float → ℕ → List Asked → Question
   buildIt : Graph → Question
   fitIt : Graph → Config → Places → Question
-  searchIt : Listing → Question
+  searchIt : ℤ → Listing → Question
 
 -- nobody tells the copy of a refusal here
 abbrev pub untold : List Call → List (Call × ℕ)
@@ -79,7 +79,7 @@ ask (limitIt g c l ks) = answersShown (limitedFrom g c l ks (fitted g))
 ask (weighIt ps w fs ks) = weighedShown (weighFrom ks (newSilence ps w fs))
 ask (buildIt g) = builtShown (checkGraph g)
 ask (fitIt g c ps) = fittedShown (checkFit g c ps)
-ask (searchIt l) = searchedShown (refuse 11 (partsWrong 0 (length (l .words)) (l .ends)))
+ask (searchIt w l) = searchedShown (firstReading w l)
 
 pub record Case : Type 0 where
   pub question : Question
@@ -426,9 +426,11 @@ table =
     (answersShown
     (doneAnswer ∷ doneAnswer ∷ no 11 nowhere ∷ no 11 nowhere ∷ no 11 nowhere ∷ pathAnswer (some (heard 1½ (pos 7 ∷ []) (0 ∷ []) (seg (pos 3) 0 1 ∷ []))) ∷ no 11 nowhere ∷ no 11 nowhere ∷ [])) ∷
     case (weighIt (pos 1 ∷ []) ½ 3 (weightsAsked 2 3 0 ∷ weightsAsked 3 3 0 ∷ [])) (weighedShown (noted ∷ refusedBy 11 ∷ deltasAre (each 0 ½ ∷ each 1 ½ ∷ each 2 ½ ∷ []) ∷ [])) ∷
-    case (searchIt (record { ends = 0 ∷ 2 ∷ 3 ∷ []; words = pos 5 ∷ pos 7 ∷ pos 7 ∷ [] })) (searchedShown none) ∷
-    case (searchIt (record { ends = 2 ∷ 1 ∷ []; words = pos 5 ∷ pos 7 ∷ pos 7 ∷ [] })) (searchedShown (some 11)) ∷
-    case (searchIt (record { ends = 4 ∷ []; words = pos 5 ∷ pos 7 ∷ pos 7 ∷ [] })) (searchedShown (some 11)) ∷
+    -- the search: the first of two hits; none; 11 where the ends fall, and where one passes the words
+    case (searchIt (pos 7) (record { ends = 0 ∷ 2 ∷ 3 ∷ []; words = pos 5 ∷ pos 7 ∷ pos 7 ∷ [] })) (searchedShown (ok (some 1))) ∷
+    case (searchIt (pos 9) (record { ends = 0 ∷ 2 ∷ 3 ∷ []; words = pos 5 ∷ pos 7 ∷ pos 7 ∷ [] })) (searchedShown (ok none)) ∷
+    case (searchIt (pos 7) (record { ends = 2 ∷ 1 ∷ []; words = pos 5 ∷ pos 7 ∷ pos 7 ∷ [] })) (searchedShown (refused 11)) ∷
+    case (searchIt (pos 7) (record { ends = 4 ∷ []; words = pos 5 ∷ pos 7 ∷ pos 7 ∷ [] })) (searchedShown (refused 11)) ∷
     -- 12: of the first look, of a total, of a winner's graph sum
     case (decodeIt far-apart (config 8f 10 0 ½) (startCall ∷ one -near ∷ decoded ∷ [])) (answersShown (doneAnswer ∷ no 12 (atFrames 0) ∷ countAnswer 0 ∷ [])) ∷
     case (decodeIt dear-aside usual (startCall ∷ one -near ∷ one -1f ∷ decoded ∷ [])) (answersShown (doneAnswer ∷ no 12 (atFrames 0) ∷ doneAnswer ∷ countAnswer 1 ∷ [])) ∷
@@ -461,5 +463,5 @@ unfolding ask answers answersFrom toldCall call readAnswer readBest readAlternat
     rankOne rankFrom ranked resume recsOn trace bestPath grouped alternatives finalRelativeCost
     hashWord onTop byWay cheapest below visited heads keptOf keptMap readOrder expanded readings
     weightingWrong newSilence badSegments tooMany told computeCurrentTraceback windowWeights deltasOf getDeltaWeights trailingSilenceFrames
-    tame fmin add sub mul neg lt le eq ne ofBits
+    firstReading tame fmin add sub mul neg lt le eq ne ofBits
 table-right = refl

@@ -2,20 +2,19 @@
 ghost use mathlib.Core.Path.{_≡_};
 ghost use mathlib.Core.Bool.{false};
 ghost use lib.ListN.{length};
-ghost use Rattle.model.specs.Search.{partsWrong, contains, Searched};
+ghost use Rattle.model.specs.Search.{partsWrong, contains, firstReading};
 ghost use Rattle.reading_search.specs.Found.{foundOf, listing};
 
-// The answer: the index of a reading, counted from 0, that contains the word; that none does; or the number of a refusal.
+// The answer: the index, counted from 0, of the first reading that contains the word; that none does; or the number of a refusal.
 pub enum Found {
     At(usize),
     Nothing,
     Refused(u32),
 }
 
-// Finds a listed reading that contains the word. Where several do, which of their indices is given is left to the program: the contract
-// holds of any of them. Nothing is answered only where no listed reading contains the word, and 11 only where the ends fall or pass the words.
+// Finds the first listed reading that contains the word; 11 where the ends fall or pass the words.
 pub fn find(word: i32, ends: &[u32], words: &[i32]) -> Found
-    ensures { λ r. ⌜ Searched word (listing (now (ends .entry)) (now (words .entry))) (foundOf r) ⌝ }
+    ensures { λ r. ⌜ foundOf r ≡ firstReading word (listing (now (ends .entry)) (now (words .entry))) ⌝ }
 {
     if parts_wrong(ends, words.len()) {
         return Found::Refused(refusals::TOO_SHORT);
@@ -52,7 +51,7 @@ fn parts_wrong(ends: &[u32], limit: usize) -> bool
 // Goes through the readings in order, each a part of the words.
 fn search(word: i32, ends: &[u32], words: &[i32]) -> Found
     requires { ⌜ partsWrong 0 (length (now words)) (now ends) ≡ false ⌝ }
-    ensures { λ r. ⌜ Searched word (listing (now (ends .entry)) (now (words .entry))) (foundOf r) ⌝ }
+    ensures { λ r. ⌜ foundOf r ≡ firstReading word (listing (now (ends .entry)) (now (words .entry))) ⌝ }
 {
     let mut from = 0;
     let mut reading = 0;

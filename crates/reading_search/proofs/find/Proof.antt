@@ -1,8 +1,9 @@
 -- `reading_search::find` meets its contract: the ends are judged first, and the search begins only where they are right.
-use mathlib.Core.Path.{refl, sym, _∙_}
+use mathlib.Core.Path.{sym, _∙_}
 use borrow.Author.Needs.{needs}
 use mir.Syntax.{w32}
 use mir.ValLaws.{toZ-ofZ}
+use Rattle.model.specs.Search.{firstReading}
 use Rattle.reading_search.proofs.find.Statement.{statement}
 use Rattle.reading_search.proofs.find.Tie as tie
 
@@ -10,7 +11,8 @@ parts-wrong-requires : tie.Need-parts-wrong-requires
 parts-wrong-requires c κs = search needs
 
 returns : tie.Need-returns
-returns c = (refl, sym (c .before .parts-wrong .ensures) ∙ c .if1 .taken)
+unfolding firstReading
+returns c = rw (sym (c .before .parts-wrong .ensures) ∙ c .if1 .taken)
 
 search-requires : tie.Need-search-requires
 search-requires c κs = sym (c .before .parts-wrong .ensures) ∙ c .if1 .left

@@ -1,4 +1,4 @@
--- `reading_search::search` meets its contract: the readings passed do not contain the word, and each is the part of the words that was lent.
+-- `reading_search::search` meets its contract: what is found among all readings is found among those not yet passed.
 use mathlib.Core.Path.{sym, _∙_}
 use Prim.Native.Nat.{_≤_, _-_}
 use native.Mathlib.Omega.{arith}
@@ -8,7 +8,8 @@ use lib.ListN.{length}
 use mir.Syntax.{w32}
 use mir.Val.{toZ}
 use mir.ValLaws.{toZ-ofZ}
-use Rattle.reading_search.proofs.Searching.{Searching, searching-none, searching-more, end-right, reading-is}
+use Rattle.model.specs.Search.{firstReading}
+use Rattle.reading_search.proofs.Searching.{Searching, searching-none, searching-more, end-right, found-here, found-nowhere}
 use Rattle.reading_search.proofs.search.Statement.{statement}
 use Rattle.reading_search.proofs.search.Tie as tie
 
@@ -60,13 +61,15 @@ has-word-requires : tie.Need-has-word-requires Inv-loop μ-loop
 has-word-requires c κs = search needs
 
 returns : tie.Need-returns Inv-loop μ-loop
+unfolding firstReading
 returns c =
-    let a = c .before .before .before .before .before .before .before .before .args in
+    let s = c .before .before .before .before .before .before .before .before in
+    let a = s .args in
     let l = c .before .before .before .before .before .before .loop in
     let w = c .before .before .before .wide in
-    let own = toZ-ofZ w32 (a .word) (c .before .before .before .before .before .before .before .before .fits .word) in
-    let h = c .before .before .before .before .before .loop-test .taken in
-    (c .before .before .before .before .before .before .before .before .pre, (h, reading-is (a .word) (now (a .ends)) (now (a .words)) (l .from) (l .reading) (w .result) (held (c .before .before .before .before .before .before)) h (w .ensures) _ (sym (rw own at (c .before .has-word .ensures)) ∙ c .if1 .taken)))
+    let own = toZ-ofZ w32 (a .word) (s .fits .word) in
+    let here = found-here (a .word) (now (a .ends)) (now (a .words)) (l .from) (l .reading) (w .result) (held (c .before .before .before .before .before .before)) (c .before .before .before .before .before .loop-test .taken) (w .ensures) (sym (rw own at (c .before .has-word .ensures)) ∙ c .if1 .taken) in
+    rw (s .pre, here)
 
 add-reading : tie.Need-add-reading Inv-loop μ-loop
 add-reading c = omega arith
@@ -83,7 +86,11 @@ loop-again c =
     rw own (searching-more (a .word) (now (a .ends)) (now (a .words)) (l .from) (l .reading) (w .result) (held (c .before .before .before .before .before .before)) (c .before .before .before .before .before .loop-test .taken) (w .ensures) (sym (rw own at (c .before .has-word .ensures)) ∙ c .if1 .left))
 
 returns-2 : tie.Need-returns-2 Inv-loop μ-loop
-returns-2 c = (c .before .before .before .pre, λ k h. held (c .before) .none-yet k (omega arith))
+unfolding firstReading
+returns-2 c =
+    let s = c .before .before .before in
+    let l = c .before .loop in
+    rw (s .pre, found-nowhere (s .args .word) (now (s .args .ends)) (now (s .args .words)) (l .from) (l .reading) (held (c .before)) (omega arith))
 
 pub search-spec : {M : Type 1} → statement M
 search-spec =
