@@ -709,19 +709,6 @@ static bool any_call(struct driver *s, uint32_t kind, struct slice w)
     }
 }
 
-/* A search gives any one of the hits that the answers list: writes the wanted answer with the hit that was given, or with the first where it is none of them. */
-static struct slice one_hit(struct slice want, struct slice got, uint32_t cut[3])
-{
-    struct slice one = {cut, 3};
-    cut[0] = 0;
-    cut[1] = 1;
-    cut[2] = want.at[2];
-    for (size_t i = 2; i < want.len && got.len == 3; i++)
-        if (want.at[i] == got.at[2])
-            cut[2] = got.at[2];
-    return one;
-}
-
 /* Whether two answers are the same; else says where they differ first. */
 static bool same(const struct driver *s, uint32_t kind, struct slice want, struct slice got)
 {
@@ -748,9 +735,7 @@ static bool right(struct driver *s, struct record call, struct record want)
     if (!any_call(s, call.kind, call.words))
         put(&s->answer, FAULTY_SCRIPT);
     struct slice got = {s->answer.words, s->answer.len};
-    uint32_t cut[3];
-    bool hits = call.kind == SEARCH && want.words.len > 2 && want.words.at[0] == 0 && want.words.at[1] == want.words.len - 2;
-    return same(s, call.kind, hits ? one_hit(want.words, got, cut) : want.words, got);
+    return same(s, call.kind, want.words, got);
 }
 
 /* Until one of the files ends; both must. */

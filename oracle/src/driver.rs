@@ -469,9 +469,9 @@ impl Driver {
                     }
                     from = e;
                 }
-                a.u(hits.len());
-                for h in hits {
-                    a.u(h);
+                a.u(usize::from(!hits.is_empty()));
+                if let Some(&first) = hits.iter().min() {
+                    a.u(first);
                 }
             }
             SHUFFLE | UNSHUFFLE => {

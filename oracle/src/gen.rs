@@ -251,15 +251,15 @@ pub fn search(seed: u64) -> Vec<Rec> {
     let mut r = Rng(seed ^ 0x5ea_2c4);
     let mut v = Vec::new();
     for _ in 0..r.range(1, 6) {
-        let m = r.below(12) as u32;
-        let n = r.below(5);
+        let (m, n) = if r.chance(60) { (r.below(12), r.below(5)) } else { (r.below(60), r.below(20)) };
+        let misshapen = r.chance(20);
         let mut w = vec![r.pick(&[0u32, 1, 2, 3, u32::MAX]), n as u32];
         let mut end = 0;
         for _ in 0..n {
-            end = if r.chance(8) { r.below(14) as u32 } else { end + r.below(u64::from(m - end.min(m)) + 1) as u32 };
-            w.push(end);
+            end = if misshapen && r.chance(30) { r.below(m + 3) } else { m.min(end + r.below(6)) };
+            w.push(end as u32);
         }
-        w.push(m);
+        w.push(m as u32);
         w.extend((0..m).map(|_| r.pick(&[0u32, 1, 2, 3, u32::MAX])));
         v.push(rec(SEARCH, &w));
     }
