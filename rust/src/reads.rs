@@ -268,10 +268,11 @@ fn grown<T>(mut read: impl FnMut(&mut Output) -> Result<T, Refusal>) -> Result<T
     answer
 }
 
-/// The index of some reading that has the word, or none. Reading i is `words[ends[i - 1]..ends[i]]`, from 0 for the first. Refused by 11 where ends fall or pass the words.
+/// The index, counted from 0, of the first reading that has the word, or none. Reading i is `words[ends[i - 1]..ends[i]]`, from 0 for the first. Refused by 11 where ends fall or pass the words.
 ///
 /// ```
 /// assert_eq!(hirqazhom::find(7, &[2, 3], &[5, 6, 7]), Ok(Some(1)));
+/// assert_eq!(hirqazhom::find(7, &[1, 2, 3], &[5, 7, 7]), Ok(Some(1)));
 /// assert_eq!(hirqazhom::find(8, &[2, 3], &[5, 6, 7]), Ok(None));
 /// assert_eq!(hirqazhom::find(7, &[2, 4], &[5, 6, 7]).unwrap_err().number, 11);
 /// ```

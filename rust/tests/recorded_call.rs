@@ -61,7 +61,7 @@ fn a_word_is_found_in_the_reading_list() -> Result<(), Refusal> {
     let ends: Vec<u32> = (1..=readings.len()).map(|n| readings[..n].iter().map(|r| r.words.len() as u32).sum()).collect();
     assert_eq!((words.as_slice(), ends.as_slice()), ([2, 3, 2, 4].as_slice(), [2, 4].as_slice()));
     assert_eq!((find(3, &ends, &words)?, find(4, &ends, &words)?), (Some(0), Some(1)));
-    assert!(find(2, &ends, &words)?.is_some());
+    assert_eq!(find(2, &ends, &words)?, Some(0), "both have it, and the first is given");
     assert_eq!(find(9, &ends, &words)?, None);
     Ok(())
 }
