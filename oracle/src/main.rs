@@ -16,6 +16,8 @@ mod shuffle;
 mod courses;
 #[cfg(feature = "proved")]
 mod proved;
+#[cfg(feature = "proved")]
+mod bench_search;
 #[cfg(feature = "blosc")]
 mod bench_shuffle;
 
@@ -62,6 +64,7 @@ oracle against FROM TO     seeds FROM to TO of eight generators against the prov
 oracle probe               experiments on limits and worst cases
 oracle fuzz SEED COUNT [DIR]   ascending against unmodified, and the refusing copy's checks
 oracle bench [STATES]
+oracle bench-search        the proved search and three in Rust (built with --features proved)
 oracle bench-shuffle       the proved shuffle, a plain loop and c-blosc's (built with --features proved,blosc)"
     );
     std::process::exit(2)
@@ -154,6 +157,8 @@ fn real() {
         Some("fuzz") => fuzz::run(num(1).unwrap_or(1), num(2).unwrap_or(1000), args.get(3).map_or("cases", |s| s)),
         Some("probe") => probe::run(),
         Some("bench") => bench::run(num(1)),
+        #[cfg(feature = "proved")]
+        Some("bench-search") => bench_search::run(),
         #[cfg(feature = "blosc")]
         Some("bench-shuffle") => bench_shuffle::run(),
         _ => usage(),
