@@ -8,7 +8,7 @@ use Rattle.lists.specs.Lists.{range}
 use Rattle.model.specs.Basics.{Outcome, ok, ◌>>=◌}
 use Rattle.model.specs.Graph.{Arc}
 use Rattle.model.specs.Path.{Token, Table}
-use Rattle.model.specs.Arrive.{Pass as ModelPass, Here, Work as ModelWork, takes, arrive, arriveAll}
+use Rattle.model.specs.Arrive.{Pass as ModelPass, Here, Work as ModelWork, takes, arrive, arrive_all}
 use Rattle.tokens.specs.declared.Token.{Token as Stored}
 use Rattle.stores.specs.Rep.{Lent}
 use Rattle.arrivals.specs.declared.Arrival.{Arrival}
@@ -17,8 +17,8 @@ use Rattle.arcs.specs.declared.Pass.{Pass}
 use Rattle.arcs.specs.declared.Work.{Work}
 use Rattle.arcs.specs.declared.Passed.{Passed}
 use Rattle.arcs.specs.declared.Passed.TheVariants.{Refused, On}
-use Rattle.arcs.specs.Part.{passOf, takesLabel, Part, PartOf, Taken, arcIn, arcsFrom, takes-is, arrivalIn, arrival-is, SourceIs}
-use Rattle.arcs.specs.Passed.{Ground, At, PassedBy, passedRefused, passedOn}
+use Rattle.arcs.specs.Part.{pass_of, takes_label, Part, PartOf, Taken, arc_in, arcs_from, takes_is, arrival_in, arrival_is, SourceIs}
+use Rattle.arcs.specs.Passed.{Ground, At, PassedBy, passed_refused, passed_on}
 use Rattle.arcs.specs.Whole.{WholeGiven, WholeIs}
 
 pub record AllGiven (g : Setting) (m : Lent) (qs eps : List ℕ) (pass : Pass) (p : Part) (x : Work) (source : Stored) : Type 0 where
@@ -34,27 +34,27 @@ pub record AllGiven (g : Setting) (m : Lent) (qs eps : List ℕ) (pass : Pass) (
 
 -- what the definition gives
 abbrev pub all_of : {g : Setting} {m : Lent} {qs eps : List ℕ} {pass : Pass} {p : Part} {x : Work} {source : Stored} → AllGiven g m qs eps pass p x source → Outcome ModelWork
-all_of {pass = pass} {p = p} G = arriveAll G.H (passOf pass p.loglikes) G.t (arcsFrom p G.s 0) G.w
+all_of {pass = pass} {p = p} G = arrive_all G.H (pass_of pass p.loglikes) G.t (arcs_from p G.s 0) G.w
 
 abbrev pub AllIs : (g : Setting) → (m m' : Lent) → (qs qs' eps : List ℕ) → Pass → Part → Work → Stored → Passed → Type 0
 AllIs g m m' qs qs' eps pass p x source r = (G : AllGiven g m qs eps pass p x source) → PassedBy g m' qs' G.done G.t.path (all_of G) r
 
 -- ---- one arc more
 
-arcs-next : (p : Part) (s i : ℕ) → i < length p.ilabels → arcsFrom p s i ≡ arcIn p s i ∷ arcsFrom p s (i + 1)
-arcs-next p s i l =
+arcs_next : (p : Part) (s i : ℕ) → i < length p.ilabels → arcs_from p s i ≡ arc_in p s i ∷ arcs_from p s (i + 1)
+arcs_next p s i l =
     let a : length p.ilabels - i ≡ suc (length p.ilabels - (i + 1)) = omega arith in
     let b : suc i ≡ i + 1 = omega arith in
-    ap (λ (n : ℕ). map (arcIn p s) (range i n)) a ∙ ap (λ (j : ℕ). arcIn p s i ∷ map (arcIn p s) (range j (length p.ilabels - (i + 1)))) b
+    ap (λ (n : ℕ). map (arc_in p s) (range i n)) a ∙ ap (λ (j : ℕ). arc_in p s i ∷ map (arc_in p s) (range j (length p.ilabels - (i + 1)))) b
 
 -- ---- one arc
 
 -- what the definition does with arc i
-abbrev pub stepBy : Here → ModelPass → Token → Arc → ModelWork → Bool → Outcome ModelWork
-stepBy H P t a w b = elim b as (λ z. Outcome ModelWork) [ true ↦ arrive H P t a w | false ↦ ok w ]
+abbrev pub step_by_lem : Here → ModelPass → Token → Arc → ModelWork → Bool → Outcome ModelWork
+step_by_lem H P t a w b = elim b as (λ z. Outcome ModelWork) [ true ↦ arrive H P t a w | false ↦ ok w ]
 
 abbrev pub step_of : {g : Setting} {m : Lent} {qs eps : List ℕ} {pass : Pass} {p : Part} {x : Work} {source : Stored} → AllGiven g m qs eps pass p x source → (i : ℕ) → Outcome ModelWork
-step_of {pass = pass} {p = p} G i = let a = arcIn p G.s i in let P = passOf pass p.loglikes in stepBy G.H P G.t a G.w (takes P a)
+step_of {pass = pass} {p = p} G i = let a = arc_in p G.s i in let P = pass_of pass p.loglikes in step_by_lem G.H P G.t a G.w (takes P a)
 
 abbrev pub StepIs : (g : Setting) → (m m' : Lent) → (qs qs' eps : List ℕ) → Pass → Part → Work → Stored → (i : ℕ) → Passed → Type 0
 StepIs g m m' qs qs' eps pass p x source i r = (G : AllGiven g m qs eps pass p x source) → PassedBy g m' qs' G.done G.t.path (step_of G i) r
@@ -63,56 +63,56 @@ module _ {g : Setting} {m : Lent} {qs eps : List ℕ} {pass : Pass} {p : Part} {
   abbrev PassAt : Lent → List ℕ → Outcome ModelWork → Passed → Type 0
   PassAt m' qs' = PassedBy g m' qs' G.done G.t.path
 
-  test-is : {b : Bool} → takesLabel pass (get_or p.ilabels i (pos 0)) ≡ b → step_of G i ≡ stepBy G.H (passOf pass p.loglikes) G.t (arcIn p G.s i) G.w b
-  test-is e = ap (stepBy G.H (passOf pass p.loglikes) G.t (arcIn p G.s i) G.w) (takes-is pass p G.s i ∙ e)
+  test_is : {b : Bool} → takes_label pass (get_or p.ilabels i (pos 0)) ≡ b → step_of G i ≡ step_by_lem G.H (pass_of pass p.loglikes) G.t (arc_in p G.s i) G.w b
+  test_is e = ap (step_by_lem G.H (pass_of pass p.loglikes) G.t (arc_in p G.s i) G.w) (takes_is pass p G.s i ∙ e)
 
-  pub step-skips : takesLabel pass (get_or p.ilabels i (pos 0)) ≡ false → PassAt m qs (step_of G i) (On x)
-  step-skips e = subst (λ (o : Outcome ModelWork). PassAt m qs o (On x)) (sym (test-is e)) (passedOn G.at)
+  pub step_skips : takes_label pass (get_or p.ilabels i (pos 0)) ≡ false → PassAt m qs (step_of G i) (On x)
+  step_skips e = subst (λ (o : Outcome ModelWork). PassAt m qs o (On x)) (sym (test_is e)) (passed_on G.at)
 
-  module _ (e : takesLabel pass (get_or p.ilabels i (pos 0)) ≡ true) where
-    abbrev pub taken-now : Taken pass p i
-    taken-now = record { graph = G.H.graph; s = G.s; of = G.of; here = l; taken = e }
+  module _ (e : takes_label pass (get_or p.ilabels i (pos 0)) ≡ true) where
+    abbrev pub taken_now : Taken pass p i
+    taken_now = record { graph = G.H.graph; s = G.s; of = G.of; here = l; taken = e }
 
-    target-low : (arrivalIn pass p source i).target < g.states
-    unfolding arcIn
-    target-low = let z = (G.of.good i l).target in let k = G.ground.states in omega arith
+    target_low : (arrival_in pass p source i).target < g.states
+    unfolding arc_in
+    target_low = let z = (G.of.good i l).target in let k = G.ground.states in omega arith
 
-    abbrev given-now : WholeGiven g m qs eps pass x source (arrivalIn pass p source i)
-    given-now =
+    abbrev given_now : WholeGiven g m qs eps pass x source (arrival_in pass p source i)
+    given_now =
         record {
           H = G.H;
           loglikes = p.loglikes;
           t = G.t;
-          arc = arcIn p G.s i;
+          arc = arc_in p G.s i;
           w = G.w;
           done = G.done;
           ground = G.ground;
           at = G.at;
-          arrival = arrival-is pass p i taken-now G.H source G.t refl G.token;
+          arrival = arrival_is pass p i taken_now G.H source G.t refl G.token;
           token = G.token;
-          target = target-low;
+          target = target_low;
         }
 
-    module _ (a : Arrival) (is : a ≡ arrivalIn pass p source i) where
-      pub whole-given : WholeGiven g m qs eps pass x source a
-      whole-given = subst (WholeGiven g m qs eps pass x source) (sym is) given-now
+    module _ (a : Arrival) (is : a ≡ arrival_in pass p source i) where
+      pub whole_given : WholeGiven g m qs eps pass x source a
+      whole_given = subst (WholeGiven g m qs eps pass x source) (sym is) given_now
 
-      pub step-whole : (m' : Lent) (qs' : List ℕ) (r : Passed) → WholeIs g m m' qs qs' eps pass x source a r → PassAt m' qs' (step_of G i) r
-      step-whole m' qs' r W = subst (λ (o : Outcome ModelWork). PassAt m' qs' o r) (sym (test-is e)) (subst (λ (b : Arrival). WholeIs g m m' qs qs' eps pass x source b r) is W given-now)
+      pub step_whole : (m' : Lent) (qs' : List ℕ) (r : Passed) → WholeIs g m m' qs qs' eps pass x source a r → PassAt m' qs' (step_of G i) r
+      step_whole m' qs' r W = subst (λ (o : Outcome ModelWork). PassAt m' qs' o r) (sym (test_is e)) (subst (λ (b : Arrival). WholeIs g m m' qs qs' eps pass x source b r) is W given_now)
 
 -- ---- the loop
 
-all-steps : (H : Here) (P : ModelPass) (t : Token) (a : Arc) (rest : List Arc) (w : ModelWork) → arriveAll H P t (a ∷ rest) w ≡ (stepBy H P t a w (takes P a) >>= λ v. arriveAll H P t rest v)
-unfolding arriveAll
-all-steps H P t a rest w = go (takes P a)
+all_steps : (H : Here) (P : ModelPass) (t : Token) (a : Arc) (rest : List Arc) (w : ModelWork) → arrive_all H P t (a ∷ rest) w ≡ (step_by_lem H P t a w (takes P a) >>= λ v. arrive_all H P t rest v)
+unfolding arrive_all
+all_steps H P t a rest w = go (takes P a)
   where
-    go : (b : Bool) → elim b as (λ z. Outcome ModelWork) [ true ↦ arrive H P t a w >>= λ v. arriveAll H P t rest v | false ↦ arriveAll H P t rest w ] ≡ (stepBy H P t a w b >>= λ v. arriveAll H P t rest v)
+    go : (b : Bool) → elim b as (λ z. Outcome ModelWork) [ true ↦ arrive H P t a w >>= λ v. arrive_all H P t rest v | false ↦ arrive_all H P t rest w ] ≡ (step_by_lem H P t a w b >>= λ v. arrive_all H P t rest v)
     go true = refl
     go false = refl
 
 module _ {g : Setting} {m : Lent} {qs eps : List ℕ} {pass : Pass} {p : Part} {x : Work} {source : Stored} (G : AllGiven g m qs eps pass p x source) where
   abbrev after : (i : ℕ) → ModelWork → Outcome ModelWork
-  after i w = arriveAll G.H (passOf pass p.loglikes) G.t (arcsFrom p G.s i) w
+  after i w = arrive_all G.H (pass_of pass p.loglikes) G.t (arcs_from p G.s i) w
 
   -- the arcs below i are done
   pub record SoFar (m' : Lent) (qs' : List ℕ) (x' : Work) (i : ℕ) : Type 0 where
@@ -120,34 +120,34 @@ module _ {g : Setting} {m : Lent} {qs eps : List ℕ} {pass : Pass} {p : Part} {
     pub at : At g m' qs' x' G.done G.t.path w'
     pub rest : all_of G ≡ after i w'
 
-  pub far-start : SoFar m qs x 0
-  far-start = record { w' = G.w; at = G.at; rest = refl }
+  pub far_start : SoFar m qs x 0
+  far_start = record { w' = G.w; at = G.at; rest = refl }
 
   module _ {m' : Lent} {qs' : List ℕ} {x' : Work} {i : ℕ} (F : SoFar m' qs' x' i) where
-    abbrev pub all-now : length qs' ≡ length qs → AllGiven g m' qs' eps pass p x' source
-    all-now k = record { H = G.H; t = G.t; s = G.s; w = F.w'; done = G.done; ground = subst (Ground g G.H G.done eps) (sym k) G.ground; at = F.at; token = G.token; of = G.of }
+    abbrev pub all_now : length qs' ≡ length qs → AllGiven g m' qs' eps pass p x' source
+    all_now k = record { H = G.H; t = G.t; s = G.s; w = F.w'; done = G.done; ground = subst (Ground g G.H G.done eps) (sym k) G.ground; at = F.at; token = G.token; of = G.of }
 
     module _ (l : i < length p.ilabels) (k : length qs' ≡ length qs) {m'' : Lent} {qs'' : List ℕ} (r : Passed) (step : StepIs g m' m'' qs' qs'' eps pass p x' source i r) where
       abbrev By : Outcome ModelWork → Passed → Type 0
       By = PassedBy g m'' qs'' G.done G.t.path
 
-      goes : all_of G ≡ (step_of (all-now k) i >>= after (i + 1))
-      goes = F.rest ∙ ap (λ (rest : List Arc). arriveAll G.H (passOf pass p.loglikes) G.t rest F.w') (arcs-next p G.s i l) ∙ all-steps G.H (passOf pass p.loglikes) G.t (arcIn p G.s i) (arcsFrom p G.s (i + 1)) F.w'
+      goes : all_of G ≡ (step_of (all_now k) i >>= after (i + 1))
+      goes = F.rest ∙ ap (λ (rest : List Arc). arrive_all G.H (pass_of pass p.loglikes) G.t rest F.w') (arcs_next p G.s i l) ∙ all_steps G.H (pass_of pass p.loglikes) G.t (arc_in p G.s i) (arcs_from p G.s (i + 1)) F.w'
 
-      next-by : (o : Outcome ModelWork) → all_of G ≡ (o >>= after (i + 1)) → (x'' : Work) → By o (On x'') → SoFar m'' qs'' x'' (i + 1)
-      next-by o q x'' (passedOn {w} A) = record { w' = w; at = A; rest = q }
+      next_by : (o : Outcome ModelWork) → all_of G ≡ (o >>= after (i + 1)) → (x'' : Work) → By o (On x'') → SoFar m'' qs'' x'' (i + 1)
+      next_by o q x'' (passed_on {w} A) = record { w' = w; at = A; rest = q }
 
-      stop-by : (o : Outcome ModelWork) → all_of G ≡ (o >>= after (i + 1)) → (n : ℕ) → By o (Refused n) → By (all_of G) (Refused n)
-      stop-by o q n (passedRefused j d z) = subst (λ (u : Outcome ModelWork). By u (Refused n)) (sym q) (passedRefused n d z)
+      stop_by : (o : Outcome ModelWork) → all_of G ≡ (o >>= after (i + 1)) → (n : ℕ) → By o (Refused n) → By (all_of G) (Refused n)
+      stop_by o q n (passed_refused j d z) = subst (λ (u : Outcome ModelWork). By u (Refused n)) (sym q) (passed_refused n d z)
 
-      pub far-next : (x'' : Work) → r ≡ On x'' → SoFar m'' qs'' x'' (i + 1)
-      far-next x'' d = next-by _ goes x'' (subst (By _) d (step (all-now k)))
+      pub far_next : (x'' : Work) → r ≡ On x'' → SoFar m'' qs'' x'' (i + 1)
+      far_next x'' d = next_by _ goes x'' (subst (By _) d (step (all_now k)))
 
-      pub far-stop : (n : ℕ) → r ≡ Refused n → By (all_of G) (Refused n)
-      far-stop n d = stop-by _ goes n (subst (By _) d (step (all-now k)))
+      pub far_stop : (n : ℕ) → r ≡ Refused n → By (all_of G) (Refused n)
+      far_stop n d = stop_by _ goes n (subst (By _) d (step (all_now k)))
 
-    pub far-end : length p.ilabels ≤ i → PassedBy g m' qs' G.done G.t.path (all_of G) (On x')
-    unfolding arriveAll
-    far-end l =
+    pub far_end : length p.ilabels ≤ i → PassedBy g m' qs' G.done G.t.path (all_of G) (On x')
+    unfolding arrive_all
+    far_end l =
         let none : length p.ilabels - i ≡ 0 = omega arith in
-        subst (λ (u : Outcome ModelWork). PassedBy g m' qs' G.done G.t.path u (On x')) (sym (F.rest ∙ ap (λ (n : ℕ). arriveAll G.H (passOf pass p.loglikes) G.t (map (arcIn p G.s) (range i n)) F.w') none)) (passedOn F.at)
+        subst (λ (u : Outcome ModelWork). PassedBy g m' qs' G.done G.t.path u (On x')) (sym (F.rest ∙ ap (λ (n : ℕ). arrive_all G.H (pass_of pass p.loglikes) G.t (map (arc_in p G.s) (range i n)) F.w') none)) (passed_on F.at)

@@ -2,66 +2,66 @@
 use Rattle.std.specs.Prelude.{◌≡◌, ◌⊎◌, ℕ, suc, ◌-◌, ◌<◌, Bool, true, false, not, ◌&&◌, ◌||◌, List, ◌∷◌, ltb, ℤ, length, get_or, Float}
 use Rattle.std.proofs.Math.Path.{refl}
 use Rattle.std.proofs.Common.{sym, ap, ap₂, ◌∙◌, subst, subst₂, inl, inr, arith, length-set, lt-ltb, le-ltb, eq-eqb, ne_eqb}
-use Rattle.lists.specs.Tests.{eq-or-not, never}
+use Rattle.lists.specs.Tests.{eq_or_not, never}
 use Rattle.model.specs.Basics.{over, Outcome, ok, refused, ◌>>=◌}
-use Rattle.model.specs.Graph.{Arc, hasEps}
+use Rattle.model.specs.Graph.{Arc, has_eps}
 use Rattle.model.specs.Path.{Path, Token, Table, memℕ}
-use Rattle.model.specs.Arrive.{Here, Work as ModelWork, Change, total, lower, passed, put, push, pushWinner, pushJoined, finish}
-use Rattle.tokens.specs.Layout.{place_in, cell_at, requeuedAt, Requeued}
-use Rattle.stores.specs.Tables.{shown-same}
+use Rattle.model.specs.Arrive.{Here, Work as ModelWork, Change, total, lower, passed, put, push, push_winner, push_joined, finish}
+use Rattle.tokens.specs.Layout.{place_in, cell_at, requeued_at, Requeued}
+use Rattle.stores.specs.Tables.{shown_same}
 use Rattle.stores.specs.Rep.{Lent, lent, Old}
 use Rattle.arrivals.specs.declared.Arrival.{Arrival}
 use Rattle.arrivals.specs.declared.Setting.{Setting}
 use Rattle.arrivals.specs.declared.Going.{Going}
 use Rattle.arrivals.specs.declared.Arrived.{Arrived}
 use Rattle.arrivals.specs.declared.Arrived.TheVariants.{Refused as NotArrived, Cut, Stays, Wins, Joins}
-use Rattle.arrivals.specs.Stood.{Stood, ArrivedBy, arrivedRefused, arrivedCut, arrivedStays, arrivedWins, arrivedJoins}
+use Rattle.arrivals.specs.Stood.{Stood, ArrivedBy, arrived_refused, arrived_cut, arrived_stays, arrived_wins, arrived_joins}
 use Rattle.arcs.specs.declared.Pass.{Pass}
 use Rattle.arcs.specs.declared.Pass.TheVariants.{Emitting, Nonemitting}
 use Rattle.arcs.specs.declared.Work.{Work}
 use Rattle.arcs.specs.declared.Passed.{Passed}
 use Rattle.arcs.specs.declared.Passed.TheVariants.{Refused, On}
-use Rattle.arcs.specs.Part.{passOf, lowered}
-use Rattle.arcs.specs.Queue.{Queued, queued-length, queued-put}
-use Rattle.arcs.specs.Passed.{Ground, At, PassedBy, passedRefused, passedOn, movedBy, queuedOn, PushIs, pushFull, pushOn}
+use Rattle.arcs.specs.Part.{pass_of, lowered}
+use Rattle.arcs.specs.Queue.{Queued, queued-length, queued_put}
+use Rattle.arcs.specs.Passed.{Ground, At, PassedBy, passed_refused, passed_on, moved_by, queued_on, PushIs, push_full, push_on}
 
 -- ---- what the parts of it leave, as the code has it
 
-abbrev pub requeuesAt : Pass → (tokens eps : List ℕ) → (side s : ℕ) → Bool
-requeuesAt (Emitting off ad) tk eps b s = false
-requeuesAt Nonemitting tk eps b s = ltb 0 (get_or eps s 0) && not (ltb 0 (requeuedAt tk (place_in b s)))
+abbrev pub requeues_at : Pass → (tokens eps : List ℕ) → (side s : ℕ) → Bool
+requeues_at (Emitting off ad) tk eps b s = false
+requeues_at Nonemitting tk eps b s = ltb 0 (get_or eps s 0) && not (ltb 0 (requeued_at tk (place_in b s)))
 
 pub data WinnerIs (qs qs' : List ℕ) (x : Work) (s : ℕ) (pass : Pass) : Passed → Type 0 where
-  winnerStays : {off ad : Float} → pass ≡ Emitting off ad → qs' ≡ qs → WinnerIs qs qs' x s pass (On x)
-  winnerPushed : {r : Passed} → pass ≡ Nonemitting → PushIs qs qs' x s r → WinnerIs qs qs' x s pass r
+  winner_stays : {off ad : Float} → pass ≡ Emitting off ad → qs' ≡ qs → WinnerIs qs qs' x s pass (On x)
+  winner_pushed : {r : Passed} → pass ≡ Nonemitting → PushIs qs qs' x s r → WinnerIs qs qs' x s pass r
 
 pub data JoinedIs (tk tk' eps qs qs' : List ℕ) (b : ℕ) (pass : Pass) (x : Work) (s : ℕ) : Passed → Type 0 where
-  joinedStays : requeuesAt pass tk eps b s ≡ false → tk' ≡ tk → qs' ≡ qs → JoinedIs tk tk' eps qs qs' b pass x s (On x)
-  joinedPushed : {r : Passed} → requeuesAt pass tk eps b s ≡ true → Requeued tk tk' (place_in b s) → PushIs qs qs' x s r → JoinedIs tk tk' eps qs qs' b pass x s r
+  joined_stays : requeues_at pass tk eps b s ≡ false → tk' ≡ tk → qs' ≡ qs → JoinedIs tk tk' eps qs qs' b pass x s (On x)
+  joined_pushed : {r : Passed} → requeues_at pass tk eps b s ≡ true → Requeued tk tk' (place_in b s) → PushIs qs qs' x s r → JoinedIs tk tk' eps qs qs' b pass x s r
 
 pub data FinishIs (tk tk' eps qs qs' : List ℕ) (b : ℕ) (pass : Pass) (x : Work) (a : Arrival) (came : Arrived) : Passed → Type 0 where
-  finishRefused : (n : ℕ) → came ≡ NotArrived n → tk' ≡ tk → FinishIs tk tk' eps qs qs' b pass x a came (Refused n)
-  finishCut : came ≡ Cut → tk' ≡ tk → qs' ≡ qs → FinishIs tk tk' eps qs qs' b pass x a came (On x)
-  finishStays : {y : Going} {x' : Work} → came ≡ Stays y → x' ≡ movedBy pass x a.total y → tk' ≡ tk → qs' ≡ qs → FinishIs tk tk' eps qs qs' b pass x a came (On x')
-  finishWins : {y : Going} {x' : Work} {r : Passed} → came ≡ Wins y → x' ≡ movedBy pass x a.total y → tk' ≡ tk → WinnerIs qs qs' x' a.target pass r → FinishIs tk tk' eps qs qs' b pass x a came r
-  finishJoins : {y : Going} {x' : Work} {r : Passed} → came ≡ Joins y → x' ≡ movedBy pass x a.total y → JoinedIs tk tk' eps qs qs' b pass x' a.target r → FinishIs tk tk' eps qs qs' b pass x a came r
+  finish_refused : (n : ℕ) → came ≡ NotArrived n → tk' ≡ tk → FinishIs tk tk' eps qs qs' b pass x a came (Refused n)
+  finish_cut : came ≡ Cut → tk' ≡ tk → qs' ≡ qs → FinishIs tk tk' eps qs qs' b pass x a came (On x)
+  finish_stays : {y : Going} {x' : Work} → came ≡ Stays y → x' ≡ moved_by pass x a.total y → tk' ≡ tk → qs' ≡ qs → FinishIs tk tk' eps qs qs' b pass x a came (On x')
+  finish_wins : {y : Going} {x' : Work} {r : Passed} → came ≡ Wins y → x' ≡ moved_by pass x a.total y → tk' ≡ tk → WinnerIs qs qs' x' a.target pass r → FinishIs tk tk' eps qs qs' b pass x a came r
+  finish_joins : {y : Going} {x' : Work} {r : Passed} → came ≡ Joins y → x' ≡ moved_by pass x a.total y → JoinedIs tk tk' eps qs qs' b pass x' a.target r → FinishIs tk tk' eps qs qs' b pass x a came r
 
 -- ---- a push
 
 -- the same stores for a work that differs in its queue alone
-queue-aside : {g : Setting} {m : Lent} {y : Going} {done : Table} {p : Path} (w v : ModelWork) → v.table ≡ w.table → v.seq ≡ w.seq → v.fresh ≡ w.fresh → v.requeued ≡ w.requeued → Stood g m y done p w → Stood g m y done p v
-queue-aside w v a b c d s = record { places = s.places; fits = s.fits; rep = rw (a, c) s.rep; seq = b ∙ s.seq; seqs = rw (a, b) s.seqs; requeued = rw d s.requeued }
+queue_aside : {g : Setting} {m : Lent} {y : Going} {done : Table} {p : Path} (w v : ModelWork) → v.table ≡ w.table → v.seq ≡ w.seq → v.fresh ≡ w.fresh → v.requeued ≡ w.requeued → Stood g m y done p w → Stood g m y done p v
+queue_aside w v a b c d s = record { places = s.places; fits = s.fits; rep = rw (a, c) s.rep; seq = b ∙ s.seq; seqs = rw (a, b) s.seqs; requeued = rw d s.requeued }
 
-abbrev onQueue : ModelWork → (s : ℕ) → (requeued : List ℕ) → ModelWork
-onQueue w s re = record { table = w.table; seq = w.seq; fresh = w.fresh; cutoff = w.cutoff; queue = s ∷ w.queue; requeued = re }
+abbrev on_queue : ModelWork → (s : ℕ) → (requeued : List ℕ) → ModelWork
+on_queue w s re = record { table = w.table; seq = w.seq; fresh = w.fresh; cutoff = w.cutoff; queue = s ∷ w.queue; requeued = re }
 
-push-full : (H : Here) (s : ℕ) (re : List ℕ) (w : ModelWork) → over (suc (length w.queue)) H.limits.queue ≡ true → push H s re w ≡ refused 14
+push_full_lem : (H : Here) (s : ℕ) (re : List ℕ) (w : ModelWork) → over (suc (length w.queue)) H.limits.queue ≡ true → push H s re w ≡ refused 14
 unfolding push
-push-full H s re w e = ap (λ (b : Bool). elim b as (λ z. Outcome ModelWork) [ true ↦ refused 14 | false ↦ ok (onQueue w s re) ]) e
+push_full_lem H s re w e = ap (λ (b : Bool). elim b as (λ z. Outcome ModelWork) [ true ↦ refused 14 | false ↦ ok (on_queue w s re) ]) e
 
-push_ok : (H : Here) (s : ℕ) (re : List ℕ) (w : ModelWork) → over (suc (length w.queue)) H.limits.queue ≡ false → push H s re w ≡ ok (onQueue w s re)
+push_ok : (H : Here) (s : ℕ) (re : List ℕ) (w : ModelWork) → over (suc (length w.queue)) H.limits.queue ≡ false → push H s re w ≡ ok (on_queue w s re)
 unfolding push
-push_ok H s re w e = ap (λ (b : Bool). elim b as (λ z. Outcome ModelWork) [ true ↦ refused 14 | false ↦ ok (onQueue w s re) ]) e
+push_ok H s re w e = ap (λ (b : Bool). elim b as (λ z. Outcome ModelWork) [ true ↦ refused 14 | false ↦ ok (on_queue w s re) ]) e
 
 module _ {g : Setting} {H : Here} {done : Table} {eps : List ℕ} {places : ℕ} (G : Ground g H done eps places) {m : Lent} {p : Path} where
   old : {y : Going} {w : ModelWork} → Stood g m y done p w → Old g.side g.states g.cap m done
@@ -70,134 +70,134 @@ module _ {g : Setting} {H : Here} {done : Table} {eps : List ℕ} {places : ℕ}
   -- `re` are the requeued states that the stores tell of already
   pub pushed : (qs qs' : List ℕ) → length qs ≡ places → (x : Work) (s : ℕ) → s < g.states → (re : List ℕ) (w : ModelWork)
       → At g m qs x done p (record { table = w.table; seq = w.seq; fresh = w.fresh; cutoff = w.cutoff; queue = w.queue; requeued = re }) → (r : Passed) → PushIs qs qs' x s r → PassedBy g m qs' done p (push H s re w) r
-  pushed qs qs' long x s low re w A r (pushFull l e) =
+  pushed qs qs' long x s low re w A r (push_full l e) =
       let k = queued-length g.states qs x.queued w.queue A.queue in
-      let o = push-full H s re w (G.queue (suc (length w.queue)) ∙ lt-ltb places (suc (length w.queue)) (omega arith)) in
-      subst (λ (z : Outcome ModelWork). PassedBy g m qs' done p z (Refused 14)) (sym o) (passedRefused 14 (λ z. omega arith) (old A.stood))
-  pushed qs qs' long x s low re w A r (pushOn l e) =
+      let o = push_full_lem H s re w (G.queue (suc (length w.queue)) ∙ lt-ltb places (suc (length w.queue)) (omega arith)) in
+      subst (λ (z : Outcome ModelWork). PassedBy g m qs' done p z (Refused 14)) (sym o) (passed_refused 14 (λ z. omega arith) (old A.stood))
+  pushed qs qs' long x s low re w A r (push_on l e) =
       let k = queued-length g.states qs x.queued w.queue A.queue in
       let o = push_ok H s re w (G.queue (suc (length w.queue)) ∙ le-ltb places (suc (length w.queue)) (omega arith)) in
-      subst (λ (z : Outcome ModelWork). PassedBy g m qs' done p z (On (queuedOn x))) (sym o)
-      (subst (λ (q : List ℕ). PassedBy g m q done p (ok (onQueue w s re)) (On (queuedOn x))) (sym e)
-      (passedOn
+      subst (λ (z : Outcome ModelWork). PassedBy g m qs' done p z (On (queued_on x))) (sym o)
+      (subst (λ (q : List ℕ). PassedBy g m q done p (ok (on_queue w s re)) (On (queued_on x))) (sym e)
+      (passed_on
       (record {
-        stood = queue-aside _ _ refl refl refl refl A.stood;
+        stood = queue_aside _ _ refl refl refl refl A.stood;
         cutoff = A.cutoff;
         fits = let z = length-set qs x.queued s in omega arith;
-        queue = queued-put g.states qs x.queued w.queue s low l A.queue;
+        queue = queued_put g.states qs x.queued w.queue s low l A.queue;
       })))
 
   -- ---- a token that a loser was joined to
 
   -- the state told as requeued
-  requeued-now : {y : Going} (tk tk' : List ℕ) (s : ℕ) → m.tokens ≡ tk → length tk' ≡ length tk → s < g.states → Requeued tk tk' (place_in g.side s) → (w : ModelWork) → Stood g m y done p w
+  requeued_now : {y : Going} (tk tk' : List ℕ) (s : ℕ) → m.tokens ≡ tk → length tk' ≡ length tk → s < g.states → Requeued tk tk' (place_in g.side s) → (w : ModelWork) → Stood g m y done p w
       → Stood g (lent tk' m.sums m.records m.labels m.gaps) y done p (record { table = w.table; seq = w.seq; fresh = w.fresh; cutoff = w.cutoff; queue = w.queue; requeued = s ∷ w.requeued })
-  requeued-now tk tk' s e long low R w S =
+  requeued_now tk tk' s e long low R w S =
       record {
         places = record { tokens = let z = S.places.tokens in let k = ap length e in omega arith; sums = S.places.sums; store = S.places.store };
         fits = S.fits;
         rep = record {
           h = S.rep.h;
           stands = S.rep.stands;
-          finished = shown-same (λ i l. cells (place_in (1 - g.side) i)) S.rep.finished;
-          progress = shown-same (λ i l. cells (place_in g.side i)) S.rep.progress;
+          finished = shown_same (λ i l. cells (place_in (1 - g.side) i)) S.rep.finished;
+          progress = shown_same (λ i l. cells (place_in g.side i)) S.rep.progress;
           hand = S.rep.hand;
           newest = S.rep.newest;
         };
         seq = S.seq;
         seqs = S.seqs;
-        requeued = λ i l. told i l (eq-or-not i s);
+        requeued = λ i l. told i l (eq_or_not i s);
       }
     where
       cells : (q : ℕ) → cell_at tk' m.sums q ≡ cell_at m.tokens m.sums q
       cells q = R.cells q m.sums ∙ ap (λ (t : List ℕ). cell_at t m.sums q) (sym e)
 
-      told : (i : ℕ) → i < g.states → (i ≡ s) ⊎ (i ≡ s → ⊥) → memℕ i (s ∷ w.requeued) ≡ ltb 0 (requeuedAt tk' (place_in g.side i))
-      told i l (inl d) = ap (λ (b : Bool). b || memℕ i w.requeued) (eq-eqb i s d) ∙ sym (ap (λ (k : ℕ). ltb 0 (requeuedAt tk' (place_in g.side k))) d ∙ ap (ltb 0) R.there)
-      told i l (inr d) = ap (λ (b : Bool). b || memℕ i w.requeued) (ne_eqb i s d) ∙ S.requeued i l ∙ ap (λ (t : List ℕ). ltb 0 (requeuedAt t (place_in g.side i))) e ∙ ap (ltb 0) (sym (R.elsewhere (place_in g.side i) (λ q. d (omega arith))))
+      told : (i : ℕ) → i < g.states → (i ≡ s) ⊎ (i ≡ s → ⊥) → memℕ i (s ∷ w.requeued) ≡ ltb 0 (requeued_at tk' (place_in g.side i))
+      told i l (inl d) = ap (λ (b : Bool). b || memℕ i w.requeued) (eq-eqb i s d) ∙ sym (ap (λ (k : ℕ). ltb 0 (requeued_at tk' (place_in g.side k))) d ∙ ap (ltb 0) R.there)
+      told i l (inr d) = ap (λ (b : Bool). b || memℕ i w.requeued) (ne_eqb i s d) ∙ S.requeued i l ∙ ap (λ (t : List ℕ). ltb 0 (requeued_at t (place_in g.side i))) e ∙ ap (ltb 0) (sym (R.elsewhere (place_in g.side i) (λ q. d (omega arith))))
 
   -- the numbers moved on
-  moved_on : {m₀ : Lent} {w v : ModelWork} (pass : Pass) (ls : List Float) (qs : List ℕ) (x : Work) (tot : Float) (y : Going) → v.cutoff ≡ lower (passOf pass ls) tot w.cutoff → v.queue ≡ w.queue → At g m₀ qs x done p w
-      → Stood g m y done p v → At g m qs (movedBy pass x tot y) done p v
+  moved_on : {m₀ : Lent} {w v : ModelWork} (pass : Pass) (ls : List Float) (qs : List ℕ) (x : Work) (tot : Float) (y : Going) → v.cutoff ≡ lower (pass_of pass ls) tot w.cutoff → v.queue ≡ w.queue → At g m₀ qs x done p w
+      → Stood g m y done p v → At g m qs (moved_by pass x tot y) done p v
   moved_on pass ls qs x tot y c q A S =
-      record { stood = S; cutoff = c ∙ ap (lower (passOf pass ls) tot) A.cutoff ∙ sym (lowered pass ls tot x.cutoff); fits = A.fits; queue = subst (Queued g.states qs x.queued) (sym q) A.queue }
+      record { stood = S; cutoff = c ∙ ap (lower (pass_of pass ls) tot) A.cutoff ∙ sym (lowered pass ls tot x.cutoff); fits = A.fits; queue = subst (Queued g.states qs x.queued) (sym q) A.queue }
 
 -- ---- all of it
 
 -- whether a join sends the state back, in the model and in the stores
-requeues-is : {g : Setting} {H : Here} {done : Table} {eps : List ℕ} {places : ℕ} (G : Ground g H done eps places) {m : Lent} {y : Going} {p : Path} (w : ModelWork) → Stood g m y done p w → (s : ℕ) → s < g.states
-    → (hasEps H.graph s && not (memℕ s w.requeued)) ≡ requeuesAt Nonemitting m.tokens eps g.side s
-requeues-is G w S s l = ap₂ (λ (a b : Bool). a && not b) (sym (G.eps-is s l)) (S.requeued s l)
+requeues_is : {g : Setting} {H : Here} {done : Table} {eps : List ℕ} {places : ℕ} (G : Ground g H done eps places) {m : Lent} {y : Going} {p : Path} (w : ModelWork) → Stood g m y done p w → (s : ℕ) → s < g.states
+    → (has_eps H.graph s && not (memℕ s w.requeued)) ≡ requeues_at Nonemitting m.tokens eps g.side s
+requeues_is G w S s l = ap₂ (λ (a b : Bool). a && not b) (sym (G.eps_is s l)) (S.requeued s l)
 
-abbrev afterJoin : Here → ℕ → ModelWork → Bool → Outcome ModelWork
-afterJoin H s w b = elim b as (λ z. Outcome ModelWork) [ true ↦ push H s (s ∷ w.requeued) w | false ↦ ok w ]
+abbrev after_join : Here → ℕ → ModelWork → Bool → Outcome ModelWork
+after_join H s w b = elim b as (λ z. Outcome ModelWork) [ true ↦ push H s (s ∷ w.requeued) w | false ↦ ok w ]
 
 module _ {g : Setting} {H : Here} {done : Table} {eps : List ℕ} {places : ℕ} (G : Ground g H done eps places) (tk tk' : List ℕ) (sm : List Float) (rs : List ℕ) (rl : List ℤ) (gs : List Float) (long : length tk' ≡ length tk) (qs qs' : List ℕ)
     (room : length qs ≡ places) (p : Path) (s : ℕ) (low : s < g.states) (x : Work) (w : ModelWork) (A : At g (lent tk sm rs rl gs) qs x done p w) where
-  winner : (pass : Pass) (ls : List Float) (r : Passed) → WinnerIs qs qs' x s pass r → PassedBy g (lent tk sm rs rl gs) qs' done p (pushWinner H (passOf pass ls) s w) r
-  winner pass ls r (winnerStays d e) =
-      subst₂ (λ (P : Pass) (q : List ℕ). PassedBy g (lent tk sm rs rl gs) q done p (pushWinner H (passOf P ls) s w) r) (sym d) (sym e) (passedOn A)
-  winner pass ls r (winnerPushed d P) = subst (λ (P : Pass). PassedBy g (lent tk sm rs rl gs) qs' done p (pushWinner H (passOf P ls) s w) r) (sym d) (pushed G qs qs' room x s low w.requeued w A r P)
+  winner : (pass : Pass) (ls : List Float) (r : Passed) → WinnerIs qs qs' x s pass r → PassedBy g (lent tk sm rs rl gs) qs' done p (push_winner H (pass_of pass ls) s w) r
+  winner pass ls r (winner_stays d e) =
+      subst₂ (λ (P : Pass) (q : List ℕ). PassedBy g (lent tk sm rs rl gs) q done p (push_winner H (pass_of P ls) s w) r) (sym d) (sym e) (passed_on A)
+  winner pass ls r (winner_pushed d P) = subst (λ (P : Pass). PassedBy g (lent tk sm rs rl gs) qs' done p (push_winner H (pass_of P ls) s w) r) (sym d) (pushed G qs qs' room x s low w.requeued w A r P)
 
-  joined_to : (pass : Pass) (ls : List Float) (r : Passed) → JoinedIs tk tk' eps qs qs' g.side pass x s r → PassedBy g (lent tk' sm rs rl gs) qs' done p (pushJoined H (passOf pass ls) s w) r
-  joined_to (Emitting off ad) ls r (joinedStays b e d) = subst₂ (λ (z q : List ℕ). PassedBy g (lent z sm rs rl gs) q done p (ok w) r) (sym e) (sym d) (passedOn A)
-  joined_to (Emitting off ad) ls r (joinedPushed b R P) = never b
-  joined_to Nonemitting ls r (joinedStays b e d) =
-      subst (λ (o : Outcome ModelWork). PassedBy g (lent tk' sm rs rl gs) qs' done p o r) (sym (ap (afterJoin H s w) (requeues-is G w A.stood s low ∙ b)))
-      (subst₂ (λ (z q : List ℕ). PassedBy g (lent z sm rs rl gs) q done p (ok w) r) (sym e) (sym d) (passedOn A))
-  joined_to Nonemitting ls r (joinedPushed b R P) =
-      subst (λ (o : Outcome ModelWork). PassedBy g (lent tk' sm rs rl gs) qs' done p o r) (sym (ap (afterJoin H s w) (requeues-is G w A.stood s low ∙ b)))
-      (pushed G qs qs' room x s low (s ∷ w.requeued) w (record { stood = requeued-now G tk tk' s refl long low R w A.stood; cutoff = A.cutoff; fits = A.fits; queue = A.queue }) r P)
+  joined_to : (pass : Pass) (ls : List Float) (r : Passed) → JoinedIs tk tk' eps qs qs' g.side pass x s r → PassedBy g (lent tk' sm rs rl gs) qs' done p (push_joined H (pass_of pass ls) s w) r
+  joined_to (Emitting off ad) ls r (joined_stays b e d) = subst₂ (λ (z q : List ℕ). PassedBy g (lent z sm rs rl gs) q done p (ok w) r) (sym e) (sym d) (passed_on A)
+  joined_to (Emitting off ad) ls r (joined_pushed b R P) = never b
+  joined_to Nonemitting ls r (joined_stays b e d) =
+      subst (λ (o : Outcome ModelWork). PassedBy g (lent tk' sm rs rl gs) qs' done p o r) (sym (ap (after_join H s w) (requeues_is G w A.stood s low ∙ b)))
+      (subst₂ (λ (z q : List ℕ). PassedBy g (lent z sm rs rl gs) q done p (ok w) r) (sym e) (sym d) (passed_on A))
+  joined_to Nonemitting ls r (joined_pushed b R P) =
+      subst (λ (o : Outcome ModelWork). PassedBy g (lent tk' sm rs rl gs) qs' done p o r) (sym (ap (after_join H s w) (requeues_is G w A.stood s low ∙ b)))
+      (pushed G qs qs' room x s low (s ∷ w.requeued) w (record { stood = requeued_now G tk tk' s refl long low R w A.stood; cutoff = A.cutoff; fits = A.fits; queue = A.queue }) r P)
 
 module _ {g : Setting} {H : Here} {done : Table} {eps : List ℕ} {places : ℕ} (G : Ground g H done eps places) (tk tk' : List ℕ) (sm : List Float) (rs : List ℕ) (rl : List ℤ) (gs : List Float) (long : length tk' ≡ length tk) (qs qs' : List ℕ)
-    (room : length qs ≡ places) (pass : Pass) (ls : List Float) (m₀ : Lent) (t : Token) (arc : Arc) (x : Work) (a : Arrival) (w : ModelWork) (A : At g m₀ qs x done t.path w) (is : a.total ≡ total H.graph (passOf pass ls) t arc)
+    (room : length qs ≡ places) (pass : Pass) (ls : List Float) (m₀ : Lent) (t : Token) (arc : Arc) (x : Work) (a : Arrival) (w : ModelWork) (A : At g m₀ qs x done t.path w) (is : a.total ≡ total H.graph (pass_of pass ls) t arc)
     (to : a.target ≡ arc.target) (low : a.target < g.states) where
   abbrev tot : Float
-  tot = total H.graph (passOf pass ls) t arc
+  tot = total H.graph (pass_of pass ls) t arc
 
   abbrev Ends : Outcome Change → Passed → Type 0
-  Ends o r = PassedBy g (lent tk' sm rs rl gs) qs' done t.path (o >>= finish H (passOf pass ls) arc.target tot w) r
+  Ends o r = PassedBy g (lent tk' sm rs rl gs) qs' done t.path (o >>= finish H (pass_of pass ls) arc.target tot w) r
 
-  now : {v : ModelWork} (y : Going) → v.cutoff ≡ lower (passOf pass ls) tot w.cutoff → v.queue ≡ w.queue → Stood g (lent tk sm rs rl gs) y done t.path v → At g (lent tk sm rs rl gs) qs (movedBy pass x a.total y) done t.path v
-  now y c q S = moved_on G pass ls qs x a.total y (c ∙ ap (λ (z : Float). lower (passOf pass ls) z w.cutoff) (sym is)) q A S
+  now : {v : ModelWork} (y : Going) → v.cutoff ≡ lower (pass_of pass ls) tot w.cutoff → v.queue ≡ w.queue → Stood g (lent tk sm rs rl gs) y done t.path v → At g (lent tk sm rs rl gs) qs (moved_by pass x a.total y) done t.path v
+  now y c q S = moved_on G pass ls qs x a.total y (c ∙ ap (λ (z : Float). lower (pass_of pass ls) z w.cutoff) (sym is)) q A S
 
-  same-tokens : (o : Outcome ModelWork) (r : Passed) → tk' ≡ tk → PassedBy g (lent tk sm rs rl gs) qs' done t.path o r → PassedBy g (lent tk' sm rs rl gs) qs' done t.path o r
-  same-tokens o r e = subst (λ (z : List ℕ). PassedBy g (lent z sm rs rl gs) qs' done t.path o r) (sym e)
+  same_tokens : (o : Outcome ModelWork) (r : Passed) → tk' ≡ tk → PassedBy g (lent tk sm rs rl gs) qs' done t.path o r → PassedBy g (lent tk' sm rs rl gs) qs' done t.path o r
+  same_tokens o r e = subst (λ (z : List ℕ). PassedBy g (lent z sm rs rl gs) qs' done t.path o r) (sym e)
 
   same_queue : (o : Outcome ModelWork) (r : Passed) → qs' ≡ qs → PassedBy g (lent tk sm rs rl gs) qs done t.path o r → PassedBy g (lent tk sm rs rl gs) qs' done t.path o r
   same_queue o r e = subst (λ (z : List ℕ). PassedBy g (lent tk sm rs rl gs) z done t.path o r) (sym e)
 
   abbrev Came : Outcome Change → Arrived → Type 0
-  Came = ArrivedBy g m₀ (lent tk sm rs rl gs) H (passOf pass ls) t arc w done
+  Came = ArrivedBy g m₀ (lent tk sm rs rl gs) H (pass_of pass ls) t arc w done
 
-  refused-so : (o : Outcome Change) (n : ℕ) → Came o (NotArrived n) → tk' ≡ tk → Ends o (Refused n)
-  refused-so o n (arrivedRefused k d z) e = same-tokens (refused n) (Refused n) e (passedRefused n d z)
+  refused_so : (o : Outcome Change) (n : ℕ) → Came o (NotArrived n) → tk' ≡ tk → Ends o (Refused n)
+  refused_so o n (arrived_refused k d z) e = same_tokens (refused n) (Refused n) e (passed_refused n d z)
 
-  cut-so : (o : Outcome Change) → Came o Cut → tk' ≡ tk → qs' ≡ qs → Ends o (On x)
+  cut_so : (o : Outcome Change) → Came o Cut → tk' ≡ tk → qs' ≡ qs → Ends o (On x)
   unfolding finish
-  cut-so o (arrivedCut d) e q = same-tokens (ok w) (On x) e (same_queue (ok w) (On x) q (passedOn (subst (λ (m : Lent). At g m qs x done t.path w) (sym d) A)))
+  cut_so o (arrived_cut d) e q = same_tokens (ok w) (On x) e (same_queue (ok w) (On x) q (passed_on (subst (λ (m : Lent). At g m qs x done t.path w) (sym d) A)))
 
-  module _ (y : Going) (x' : Work) (moves : x' ≡ movedBy pass x a.total y) where
-    now-as : {v : ModelWork} → v.cutoff ≡ lower (passOf pass ls) tot w.cutoff → v.queue ≡ w.queue → Stood g (lent tk sm rs rl gs) y done t.path v → At g (lent tk sm rs rl gs) qs x' done t.path v
-    now-as {v} c q S = subst (λ (z : Work). At g (lent tk sm rs rl gs) qs z done t.path v) (sym moves) (now y c q S)
+  module _ (y : Going) (x' : Work) (moves : x' ≡ moved_by pass x a.total y) where
+    now_as : {v : ModelWork} → v.cutoff ≡ lower (pass_of pass ls) tot w.cutoff → v.queue ≡ w.queue → Stood g (lent tk sm rs rl gs) y done t.path v → At g (lent tk sm rs rl gs) qs x' done t.path v
+    now_as {v} c q S = subst (λ (z : Work). At g (lent tk sm rs rl gs) qs z done t.path v) (sym moves) (now y c q S)
 
-    stays-so : (o : Outcome Change) → Came o (Stays y) → tk' ≡ tk → qs' ≡ qs → Ends o (On x')
+    stays_so : (o : Outcome Change) → Came o (Stays y) → tk' ≡ tk → qs' ≡ qs → Ends o (On x')
     unfolding finish passed
-    stays-so o (arrivedStays S) e q = same-tokens _ (On x') e (same_queue _ (On x') q (passedOn (now-as refl refl S)))
+    stays_so o (arrived_stays S) e q = same_tokens _ (On x') e (same_queue _ (On x') q (passed_on (now_as refl refl S)))
 
-    wins-so : (o : Outcome Change) (r : Passed) → Came o (Wins y) → tk' ≡ tk → WinnerIs qs qs' x' a.target pass r → Ends o r
+    wins_so : (o : Outcome Change) (r : Passed) → Came o (Wins y) → tk' ≡ tk → WinnerIs qs qs' x' a.target pass r → Ends o r
     unfolding finish passed put
-    wins-so o r (arrivedWins S) e W =
-        same-tokens _ r e (winner G tk tk' sm rs rl gs long qs qs' room t.path arc.target (omega arith) x' _ (now-as refl refl S) pass ls r (subst (λ (s : ℕ). WinnerIs qs qs' x' s pass r) to W))
+    wins_so o r (arrived_wins S) e W =
+        same_tokens _ r e (winner G tk tk' sm rs rl gs long qs qs' room t.path arc.target (omega arith) x' _ (now_as refl refl S) pass ls r (subst (λ (s : ℕ). WinnerIs qs qs' x' s pass r) to W))
 
-    joins-so : (o : Outcome Change) (r : Passed) → Came o (Joins y) → JoinedIs tk tk' eps qs qs' g.side pass x' a.target r → Ends o r
+    joins_so : (o : Outcome Change) (r : Passed) → Came o (Joins y) → JoinedIs tk tk' eps qs qs' g.side pass x' a.target r → Ends o r
     unfolding finish passed put
-    joins-so o r (arrivedJoins S) J =
-        joined_to G tk tk' sm rs rl gs long qs qs' room t.path arc.target (omega arith) x' _ (now-as refl refl S) pass ls r (subst (λ (s : ℕ). JoinedIs tk tk' eps qs qs' g.side pass x' s r) to J)
+    joins_so o r (arrived_joins S) J =
+        joined_to G tk tk' sm rs rl gs long qs qs' room t.path arc.target (omega arith) x' _ (now_as refl refl S) pass ls r (subst (λ (s : ℕ). JoinedIs tk tk' eps qs qs' g.side pass x' s r) to J)
 
   pub finished : (o : Outcome Change) (came : Arrived) (r : Passed) → Came o came → FinishIs tk tk' eps qs qs' g.side pass x a came r → Ends o r
-  finished o came r B (finishRefused n c e) = refused-so o n (subst (Came o) c B) e
-  finished o came r B (finishCut c e q) = cut-so o (subst (Came o) c B) e q
-  finished o came r B (finishStays {y} {x'} c d e q) = stays-so y x' d o (subst (Came o) c B) e q
-  finished o came r B (finishWins {y} {x'} c d e W) = wins-so y x' d o r (subst (Came o) c B) e W
-  finished o came r B (finishJoins {y} {x'} c d J) = joins-so y x' d o r (subst (Came o) c B) J
+  finished o came r B (finish_refused n c e) = refused_so o n (subst (Came o) c B) e
+  finished o came r B (finish_cut c e q) = cut_so o (subst (Came o) c B) e q
+  finished o came r B (finish_stays {y} {x'} c d e q) = stays_so y x' d o (subst (Came o) c B) e q
+  finished o came r B (finish_wins {y} {x'} c d e W) = wins_so y x' d o r (subst (Came o) c B) e W
+  finished o came r B (finish_joins {y} {x'} c d J) = joins_so y x' d o r (subst (Came o) c B) J

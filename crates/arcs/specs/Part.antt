@@ -20,13 +20,13 @@ use Rattle.arrivals.specs.Arrival.{ArrivalIs}
 use Rattle.arcs.specs.declared.Pass.{Pass}
 use Rattle.arcs.specs.declared.Pass.TheVariants.{Emitting, Nonemitting}
 
-abbrev pub passOf : Pass → (loglikes : List Float) → ModelPass
-passOf (Emitting off ad) ls = emitting ls off ad
-passOf Nonemitting ls = nonemitting
+abbrev pub pass_of : Pass → (loglikes : List Float) → ModelPass
+pass_of (Emitting off ad) ls = emitting ls off ad
+pass_of Nonemitting ls = nonemitting
 
-abbrev pub takesLabel : Pass → ℤ → Bool
-takesLabel (Emitting off ad) z = nonzero z
-takesLabel Nonemitting z = not (nonzero z)
+abbrev pub takes_label : Pass → ℤ → Bool
+takes_label (Emitting off ad) z = nonzero z
+takes_label Nonemitting z = not (nonzero z)
 
 -- ---- what a pass reads: the arcs of one state, the transition tables and the frame
 
@@ -43,11 +43,11 @@ abbrev pub part : (ilabels olabels : List ℤ) (weights : List Float) (nextstate
 part il ol ws ns tp tf ls = record { ilabels = il; olabels = ol; weights = ws; nextstates = ns; tid2pdf = tp; tid2phone = tf; loglikes = ls }
 
 -- arc i of state s, and all of them
-unfoldable pub arcIn : Part → (s i : ℕ) → Arc
-arcIn p s i = record { source = s; ilabel = get_or p.ilabels i (pos 0); olabel = get_or p.olabels i (pos 0); weight = get_or p.weights i 0f; target = get_or p.nextstates i 0 }
+unfoldable pub arc_in : Part → (s i : ℕ) → Arc
+arc_in p s i = record { source = s; ilabel = get_or p.ilabels i (pos 0); olabel = get_or p.olabels i (pos 0); weight = get_or p.weights i 0f; target = get_or p.nextstates i 0 }
 
-abbrev pub arcsFrom : Part → (s i : ℕ) → List Arc
-arcsFrom p s i = map (arcIn p s) (range i (length p.ilabels - i))
+abbrev pub arcs_from : Part → (s i : ℕ) → List Arc
+arcs_from p s i = map (arc_in p s) (range i (length p.ilabels - i))
 
 -- a frame has a log-likelihood for every pdf; the nonemitting pass reads none
 abbrev pub Hears : Pass → Graph → List Float → Type 0
@@ -62,7 +62,7 @@ pub record PartOf (g : Graph) (pass : Pass) (p : Part) (s : ℕ) : Type 0 where
   pub pdfs : g.tid2pdf ≡ p.tid2pdf
   pub phones : g.tid2phone ≡ p.tid2phone
   pub heard : Hears pass g p.loglikes
-  pub good : (i : ℕ) → i < length p.ilabels → GoodArc g (arcIn p s i)
+  pub good : (i : ℕ) → i < length p.ilabels → GoodArc g (arc_in p s i)
 
 -- an arc that the pass takes
 pub record Taken (pass : Pass) (p : Part) (i : ℕ) : Type 0 where
@@ -70,12 +70,12 @@ pub record Taken (pass : Pass) (p : Part) (i : ℕ) : Type 0 where
   pub s : ℕ
   pub of : PartOf graph pass p s
   pub here : i < length p.ilabels
-  pub taken : takesLabel pass (get_or p.ilabels i (pos 0)) ≡ true
+  pub taken : takes_label pass (get_or p.ilabels i (pos 0)) ≡ true
 
 -- ---- numbers that a label leads to
 
-abbrev pub byLabel : (ilabels table : List ℤ) → ℕ → ℕ
-byLabel il tp i = nat_abs (get_or tp (nat_abs (get_or il i (pos 0))) (pos 0))
+abbrev pub by_label : (ilabels table : List ℤ) → ℕ → ℕ
+by_label il tp i = nat_abs (get_or tp (nat_abs (get_or il i (pos 0))) (pos 0))
 
 -- arc i's label is in a table, and the number there is not below zero
 pub record Labelled (il tp : List ℤ) (i : ℕ) : Type 0 where
@@ -86,81 +86,81 @@ pub record Labelled (il tp : List ℤ) (i : ℕ) : Type 0 where
 
 -- what the total and the phone ask
 abbrev pub HeardAt : Pass → (ilabels tid2pdf : List ℤ) (loglikes : List Float) → ℕ → Type 0
-HeardAt (Emitting off ad) il tp ls i = Labelled il tp i × (byLabel il tp i < length ls)
+HeardAt (Emitting off ad) il tp ls i = Labelled il tp i × (by_label il tp i < length ls)
 HeardAt Nonemitting il tp ls i = Unit {0}
 
 abbrev pub PhoneAsks : Pass → (ilabels tid2phone : List ℤ) → ℕ → Type 0
 PhoneAsks (Emitting off ad) il tf i = Labelled il tf i
 PhoneAsks Nonemitting il tf i = Unit {0}
 
-abbrev pub totalIn : Pass → (ilabels : List ℤ) (weights : List Float) (tid2pdf : List ℤ) (loglikes : List Float) → (cost : Float) → ℕ → Float
-totalIn (Emitting off ad) il ws tp ls c i = (c ⊕ (off ⊖ get_or ls (byLabel il tp i) 0f)) ⊕ get_or ws i 0f
-totalIn Nonemitting il ws tp ls c i = c ⊕ get_or ws i 0f
+abbrev pub total_in : Pass → (ilabels : List ℤ) (weights : List Float) (tid2pdf : List ℤ) (loglikes : List Float) → (cost : Float) → ℕ → Float
+total_in (Emitting off ad) il ws tp ls c i = (c ⊕ (off ⊖ get_or ls (by_label il tp i) 0f)) ⊕ get_or ws i 0f
+total_in Nonemitting il ws tp ls c i = c ⊕ get_or ws i 0f
 
-abbrev pub phoneIn : Pass → (ilabels tid2phone : List ℤ) → (phone : ℕ) → ℕ → ℕ
-phoneIn (Emitting off ad) il tf ph i = byLabel il tf i
-phoneIn Nonemitting il tf ph i = ph
+abbrev pub phone_in : Pass → (ilabels tid2phone : List ℤ) → (phone : ℕ) → ℕ → ℕ
+phone_in (Emitting off ad) il tf ph i = by_label il tf i
+phone_in Nonemitting il tf ph i = ph
 
 -- what arc i brings
-abbrev pub arrivalIn : Pass → Part → Stored → ℕ → Arrival
-arrivalIn pass p x i =
+abbrev pub arrival_in : Pass → Part → Stored → ℕ → Arrival
+arrival_in pass p x i =
     record {
-      total = totalIn pass p.ilabels p.weights p.tid2pdf p.loglikes x.cost i;
+      total = total_in pass p.ilabels p.weights p.tid2pdf p.loglikes x.cost i;
       graph = x.graph ⊕ get_or p.weights i 0f;
       word = get_or p.olabels i (pos 0);
-      phone = phoneIn pass p.ilabels p.tid2phone x.phone i;
+      phone = phone_in pass p.ilabels p.tid2phone x.phone i;
       target = get_or p.nextstates i 0;
     }
 
-abbrev pub lowerBy : Pass → (total cutoff : Float) → Float
-lowerBy (Emitting off ad) tot c = cond (tot ⊕ ad ≺ c) (tot ⊕ ad) c
-lowerBy Nonemitting tot c = c
+abbrev pub lower_by : Pass → (total cutoff : Float) → Float
+lower_by (Emitting off ad) tot c = cond (tot ⊕ ad ≺ c) (tot ⊕ ad) c
+lower_by Nonemitting tot c = c
 
 -- ---- laws
 
-pub lowered : (pass : Pass) (ls : List Float) (tot c : Float) → lowerBy pass tot c ≡ lower (passOf pass ls) tot c
+pub lowered : (pass : Pass) (ls : List Float) (tot c : Float) → lower_by pass tot c ≡ lower (pass_of pass ls) tot c
 unfolding lower
 lowered (Emitting off ad) ls tot c = refl
 lowered Nonemitting ls tot c = refl
 
-pub takes-is : (pass : Pass) (p : Part) (s i : ℕ) → takes (passOf pass p.loglikes) (arcIn p s i) ≡ takesLabel pass (get_or p.ilabels i (pos 0))
-unfolding arcIn
-takes-is (Emitting off ad) p s i = refl
-takes-is Nonemitting p s i = refl
+pub takes_is : (pass : Pass) (p : Part) (s i : ℕ) → takes (pass_of pass p.loglikes) (arc_in p s i) ≡ takes_label pass (get_or p.ilabels i (pos 0))
+unfolding arc_in
+takes_is (Emitting off ad) p s i = refl
+takes_is Nonemitting p s i = refl
 
-not-below : (z : ℤ) → ltℤ z (pos 0) ≡ false → T (non_neg z)
-not-below (pos n) e = tt
-not-below (negsuc n) e = never (sym e)
+not_below : (z : ℤ) → ltℤ z (pos 0) ≡ false → T (non_neg z)
+not_below (pos n) e = tt
+not_below (negsuc n) e = never (sym e)
 
 is_pos : (z : ℤ) (n : ℕ) → z ≡ pos n → T (non_neg z) × (nat_abs z ≡ n)
 is_pos z n e = subst (λ (y : ℤ). T (non_neg y) × (nat_abs y ≡ n)) (sym e) (tt, refl)
 
-module _ (p : Part) (i s : ℕ) (g : Graph) (pdfs : g.tid2pdf ≡ p.tid2pdf) (phones : g.tid2phone ≡ p.tid2phone) (here : i < length p.ilabels) (a : GoodArc g (arcIn p s i)) (l : GoodLabel g (arcIn p s i)) where
-  pub in-pdfs : Labelled p.ilabels p.tid2pdf i
-  unfolding arcIn
-  in-pdfs = record { here = here; label = not-below (get_or p.ilabels i (pos 0)) a.label; inside = let e = ap length pdfs in let k = l.in-pdfs in omega arith; number = subst (λ (t : List ℤ). T (non_neg (get_or t (nat_abs (get_or p.ilabels i (pos 0))) (pos 0)))) pdfs (is_pos _ l.pdf l.pdf-is).0 }
+module _ (p : Part) (i s : ℕ) (g : Graph) (pdfs : g.tid2pdf ≡ p.tid2pdf) (phones : g.tid2phone ≡ p.tid2phone) (here : i < length p.ilabels) (a : GoodArc g (arc_in p s i)) (l : GoodLabel g (arc_in p s i)) where
+  pub in_pdfs : Labelled p.ilabels p.tid2pdf i
+  unfolding arc_in
+  in_pdfs = record { here = here; label = not_below (get_or p.ilabels i (pos 0)) a.label; inside = let e = ap length pdfs in let k = l.in_pdfs in omega arith; number = subst (λ (t : List ℤ). T (non_neg (get_or t (nat_abs (get_or p.ilabels i (pos 0))) (pos 0)))) pdfs (is_pos _ l.pdf l.pdf_is).0 }
 
-  pub in-phones : Labelled p.ilabels p.tid2phone i
-  unfolding arcIn
-  in-phones = record { here = here; label = not-below (get_or p.ilabels i (pos 0)) a.label; inside = let e = ap length phones in let k = l.in-phones in omega arith; number = subst (λ (t : List ℤ). T (non_neg (get_or t (nat_abs (get_or p.ilabels i (pos 0))) (pos 0)))) phones (is_pos _ (suc l.phone) l.phone-is).0 }
+  pub in_phones : Labelled p.ilabels p.tid2phone i
+  unfolding arc_in
+  in_phones = record { here = here; label = not_below (get_or p.ilabels i (pos 0)) a.label; inside = let e = ap length phones in let k = l.in_phones in omega arith; number = subst (λ (t : List ℤ). T (non_neg (get_or t (nat_abs (get_or p.ilabels i (pos 0))) (pos 0)))) phones (is_pos _ (suc l.phone) l.phone_is).0 }
 
-  pub pdf-in : g.pdfs ≤ length p.loglikes → byLabel p.ilabels p.tid2pdf i < length p.loglikes
-  unfolding arcIn
-  pdf-in h = let e = sym (ap (λ (t : List ℤ). byLabel p.ilabels t i) pdfs) ∙ (is_pos _ l.pdf l.pdf-is).1 in let k = l.pdf-few in omega arith
+  pub pdf_in : g.pdfs ≤ length p.loglikes → by_label p.ilabels p.tid2pdf i < length p.loglikes
+  unfolding arc_in
+  pdf_in h = let e = sym (ap (λ (t : List ℤ). by_label p.ilabels t i) pdfs) ∙ (is_pos _ l.pdf l.pdf_is).1 in let k = l.pdf_few in omega arith
 
-pub heard-at : (pass : Pass) (p : Part) (i : ℕ) → Taken pass p i → HeardAt pass p.ilabels p.tid2pdf p.loglikes i
-unfolding arcIn
-heard-at (Emitting off ad) p i T =
+pub heard_at : (pass : Pass) (p : Part) (i : ℕ) → Taken pass p i → HeardAt pass p.ilabels p.tid2pdf p.loglikes i
+unfolding arc_in
+heard_at (Emitting off ad) p i T =
     let o = T.of in
     let a = o.good i T.here in
     let l = a.emitting T.taken in
-    (in-pdfs p i T.s T.graph o.pdfs o.phones T.here a l, pdf-in p i T.s T.graph o.pdfs o.phones T.here a l o.heard)
-heard-at Nonemitting p i T = tt
+    (in_pdfs p i T.s T.graph o.pdfs o.phones T.here a l, pdf_in p i T.s T.graph o.pdfs o.phones T.here a l o.heard)
+heard_at Nonemitting p i T = tt
 
-pub phone-asks : (pass : Pass) (p : Part) (i : ℕ) → Taken pass p i → PhoneAsks pass p.ilabels p.tid2phone i
-unfolding arcIn
-phone-asks (Emitting off ad) p i T = let o = T.of in let a = o.good i T.here in in-phones p i T.s T.graph o.pdfs o.phones T.here a (a.emitting T.taken)
-phone-asks Nonemitting p i T = tt
+pub phone_asks : (pass : Pass) (p : Part) (i : ℕ) → Taken pass p i → PhoneAsks pass p.ilabels p.tid2phone i
+unfolding arc_in
+phone_asks (Emitting off ad) p i T = let o = T.of in let a = o.good i T.here in in_phones p i T.s T.graph o.pdfs o.phones T.here a (a.emitting T.taken)
+phone_asks Nonemitting p i T = tt
 
 -- a stored token has the sums and the phone of the model's
 pub record SourceIs (x : Stored) (t : Token) : Type 0 where
@@ -168,22 +168,22 @@ pub record SourceIs (x : Stored) (t : Token) : Type 0 where
   pub graph : x.graph ≡ t.graph
   pub phone : pos x.phone ≡ t.phone
 
-pub arrival-is : (pass : Pass) (p : Part) (i : ℕ) (T : Taken pass p i) (H : Here) (x : Stored) (t : Token) → H.graph ≡ T.graph → SourceIs x t → ArrivalIs H (passOf pass p.loglikes) t (arcIn p T.s i) (arrivalIn pass p x i)
-unfolding arcIn total
-arrival-is (Emitting off ad) p i T H x t e X =
+pub arrival_is : (pass : Pass) (p : Part) (i : ℕ) (T : Taken pass p i) (H : Here) (x : Stored) (t : Token) → H.graph ≡ T.graph → SourceIs x t → ArrivalIs H (pass_of pass p.loglikes) t (arc_in p T.s i) (arrival_in pass p x i)
+unfolding arc_in total
+arrival_is (Emitting off ad) p i T H x t e X =
     let pdfs = ap (λ (g : Graph). g.tid2pdf) e ∙ T.of.pdfs in
     let phones = ap (λ (g : Graph). g.tid2phone) e ∙ T.of.phones in
     let a = T.of.good i T.here in
     let l = a.emitting T.taken in
     record {
-      total = ap₂ (λ (c : Float) (t : List ℤ). (c ⊕ (off ⊖ get_or p.loglikes (byLabel p.ilabels t i) 0f)) ⊕ get_or p.weights i 0f) X.cost (sym pdfs);
+      total = ap₂ (λ (c : Float) (t : List ℤ). (c ⊕ (off ⊖ get_or p.loglikes (by_label p.ilabels t i) 0f)) ⊕ get_or p.weights i 0f) X.cost (sym pdfs);
       graph = ap (λ (c : Float). c ⊕ get_or p.weights i 0f) X.graph;
       word = refl;
-      phone = natural _ (suc l.phone) (ap (λ (t : List ℤ). get_or t (nat_abs (get_or p.ilabels i (pos 0))) (pos 0)) (sym T.of.phones) ∙ l.phone-is) ∙ ap (λ (t : List ℤ). get_or t (nat_abs (get_or p.ilabels i (pos 0))) (pos 0)) (sym phones);
+      phone = natural _ (suc l.phone) (ap (λ (t : List ℤ). get_or t (nat_abs (get_or p.ilabels i (pos 0))) (pos 0)) (sym T.of.phones) ∙ l.phone_is) ∙ ap (λ (t : List ℤ). get_or t (nat_abs (get_or p.ilabels i (pos 0))) (pos 0)) (sym phones);
       target = refl;
     }
   where
     natural : (z : ℤ) (n : ℕ) → z ≡ pos n → pos (nat_abs z) ≡ z
     natural z n q = subst (λ (y : ℤ). pos (nat_abs y) ≡ y) (sym q) refl
-arrival-is Nonemitting p i T H x t e X =
+arrival_is Nonemitting p i T H x t e X =
     record { total = ap (λ (c : Float). c ⊕ get_or p.weights i 0f) X.cost; graph = ap (λ (c : Float). c ⊕ get_or p.weights i 0f) X.graph; word = refl; phone = X.phone; target = refl }

@@ -1,7 +1,7 @@
 -- Where a pass stands between two arcs, and what it gives back.
 use Rattle.std.specs.Prelude.{◌≡◌, ℕ, ◌+◌, ◌≤◌, ◌<◌, List, ltb, length, get_or, set, Float}
 use Rattle.model.specs.Basics.{over, Outcome, ok, refused}
-use Rattle.model.specs.Graph.{states, hasEps}
+use Rattle.model.specs.Graph.{states, has_eps}
 use Rattle.model.specs.Checked.{GoodGraph}
 use Rattle.model.specs.Path.{Path, Table}
 use Rattle.model.specs.Arrive.{Here, Work as ModelWork}
@@ -13,7 +13,7 @@ use Rattle.arcs.specs.declared.Pass.{Pass}
 use Rattle.arcs.specs.declared.Work.{Work}
 use Rattle.arcs.specs.declared.Passed.{Passed}
 use Rattle.arcs.specs.declared.Passed.TheVariants.{Refused, On}
-use Rattle.arcs.specs.Part.{lowerBy}
+use Rattle.arcs.specs.Part.{lower_by}
 use Rattle.arcs.specs.Queue.{Queued}
 
 -- what stands still during a pass: the setting, the table of the states that have epsilon arcs, and the places of the queue
@@ -21,34 +21,34 @@ pub record Ground (g : Setting) (H : Here) (done : Table) (eps : List ℕ) (plac
   pub pass : PassIs g H done
   pub good : GoodGraph H.graph
   pub states : g.states ≡ states H.graph
-  pub eps-long : g.states ≤ length eps
-  pub eps-is : (s : ℕ) → s < g.states → ltb 0 (get_or eps s 0) ≡ hasEps H.graph s
+  pub eps_long : g.states ≤ length eps
+  pub eps_is : (s : ℕ) → s < g.states → ltb 0 (get_or eps s 0) ≡ has_eps H.graph s
   pub queue : (k : ℕ) → over k H.limits.queue ≡ ltb places k
 
-abbrev pub goingOf : Work → Going
-goingOf x = record { used = x.used; seq = x.seq; link = x.link }
+abbrev pub going_of : Work → Going
+going_of x = record { used = x.used; seq = x.seq; link = x.link }
 
 -- what moves: the stores and the queue stand for the model's work, with a path in hand
 pub record At (g : Setting) (m : Lent) (qs : List ℕ) (x : Work) (done : Table) (p : Path) (w : ModelWork) : Type 0 where
-  pub stood : Stood g m (goingOf x) done p w
+  pub stood : Stood g m (going_of x) done p w
   pub cutoff : w.cutoff ≡ x.cutoff
   pub fits : x.queued ≤ length qs
   pub queue : Queued g.states qs x.queued w.queue
 
 -- what comes of a step that the definition gives an outcome for
 pub data PassedBy (g : Setting) (m : Lent) (qs : List ℕ) (done : Table) (p : Path) : Outcome ModelWork → Passed → Type 0 where
-  passedRefused : (n : ℕ) → (n ≡ 0 → ⊥) → Old g.side g.states g.cap m done → PassedBy g m qs done p (refused n) (Refused n)
-  passedOn : {w : ModelWork} {x : Work} → At g m qs x done p w → PassedBy g m qs done p (ok w) (On x)
+  passed_refused : (n : ℕ) → (n ≡ 0 → ⊥) → Old g.side g.states g.cap m done → PassedBy g m qs done p (refused n) (Refused n)
+  passed_on : {w : ModelWork} {x : Work} → At g m qs x done p w → PassedBy g m qs done p (ok w) (On x)
 
 -- ---- the numbers that move
 
-abbrev pub movedBy : Pass → Work → (total : Float) → Going → Work
-movedBy pass x tot y = record { used = y.used; seq = y.seq; link = y.link; cutoff = lowerBy pass tot x.cutoff; queued = x.queued }
+abbrev pub moved_by : Pass → Work → (total : Float) → Going → Work
+moved_by pass x tot y = record { used = y.used; seq = y.seq; link = y.link; cutoff = lower_by pass tot x.cutoff; queued = x.queued }
 
-abbrev pub queuedOn : Work → Work
-queuedOn x = record { used = x.used; seq = x.seq; link = x.link; cutoff = x.cutoff; queued = x.queued + 1 }
+abbrev pub queued_on : Work → Work
+queued_on x = record { used = x.used; seq = x.seq; link = x.link; cutoff = x.cutoff; queued = x.queued + 1 }
 
 -- what a push leaves
 pub data PushIs (qs qs' : List ℕ) (x : Work) (s : ℕ) : Passed → Type 0 where
-  pushFull : length qs ≤ x.queued → qs' ≡ qs → PushIs qs qs' x s (Refused 14)
-  pushOn : x.queued < length qs → qs' ≡ set qs x.queued s → PushIs qs qs' x s (On (queuedOn x))
+  push_full : length qs ≤ x.queued → qs' ≡ qs → PushIs qs qs' x s (Refused 14)
+  push_on : x.queued < length qs → qs' ≡ set qs x.queued s → PushIs qs qs' x s (On (queued_on x))

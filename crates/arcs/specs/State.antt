@@ -5,19 +5,19 @@ use Rattle.std.proofs.Common.{ap₂, ◌∙◌, subst, arith}
 use mathlib.Core.List.{List, map}
 use Rattle.std.proofs.Math.ListN.{get_or}
 use Rattle.lists.specs.Lists.{range}
-use Rattle.lists.specs.Parts.{part_length, part_at, in-range, ranges-alike}
+use Rattle.lists.specs.Parts.{part_length, part_at, in_range, ranges_alike}
 use Rattle.model.specs.Basics.{0f, Outcome}
-use Rattle.model.specs.Graph.{Graph, Arc, states, arcAt, arcsOf}
+use Rattle.model.specs.Graph.{Graph, Arc, states, arc_at, arcs_of}
 use Rattle.model.specs.Checked.{GoodGraph, GoodArc}
 use Rattle.model.specs.Path.{Token, Table}
-use Rattle.model.specs.Arrive.{Here, Work as ModelWork, arriveAll}
+use Rattle.model.specs.Arrive.{Here, Work as ModelWork, arrive_all}
 use Rattle.tokens.specs.declared.Token.{Token as Stored}
 use Rattle.stores.specs.Rep.{Lent}
 use Rattle.arrivals.specs.declared.Setting.{Setting}
 use Rattle.arcs.specs.declared.Pass.{Pass}
 use Rattle.arcs.specs.declared.Work.{Work}
 use Rattle.arcs.specs.declared.Passed.{Passed}
-use Rattle.arcs.specs.Part.{passOf, Part, part, PartOf, arcIn, arcsFrom, Hears, SourceIs}
+use Rattle.arcs.specs.Part.{pass_of, Part, part, PartOf, arc_in, arcs_from, Hears, SourceIs}
 use Rattle.arcs.specs.Passed.{Ground, At, PassedBy}
 use Rattle.arcs.specs.All.{AllGiven, AllIs}
 
@@ -52,7 +52,7 @@ pub record StateGiven (g : Setting) (m : Lent) (qs eps : List ℕ) (pass : Pass)
 
 -- what the definition gives
 abbrev pub state_of : {g : Setting} {m : Lent} {qs eps : List ℕ} {pass : Pass} {T : Tables} {x : Work} {source : Stored} {s : ℕ} → StateGiven g m qs eps pass T x source s → Outcome ModelWork
-state_of {pass = pass} {T = T} {s = s} G = arriveAll G.H (passOf pass T.arcs.loglikes) G.t (arcsOf G.H.graph s) G.w
+state_of {pass = pass} {T = T} {s = s} G = arrive_all G.H (pass_of pass T.arcs.loglikes) G.t (arcs_of G.H.graph s) G.w
 
 abbrev pub StateIs : (g : Setting) → (m m' : Lent) → (qs qs' eps : List ℕ) → Pass → Tables → Work → Stored → (s : ℕ) → Passed → Type 0
 StateIs g m m' qs qs' eps pass T x source s r = (G : StateGiven g m qs eps pass T x source s) → PassedBy g m' qs' G.done G.t.path (state_of G) r
@@ -97,15 +97,15 @@ module _ (g : Graph) (pass : Pass) (T : Tables) (good : GoodGraph g) (of : Table
       let n = ap length of.nextstates in
       (omega arith, let z = sh.olabels in omega arith, let z = sh.weights in omega arith, let z = sh.nextstates in omega arith)
 
-  pub two-offsets : s + 1 < length T.offsets
-  two-offsets = let z = good.shape.offsets in let o = ap length of.offsets in omega arith
+  pub two_offsets : s + 1 < length T.offsets
+  two_offsets = let z = good.shape.offsets in let o = ap length of.offsets in omega arith
 
   long : {A : Type 0} (xs : List A) → e ≤ length xs → length (slice a e xs) ≡ e - a
   long xs l = part_length xs a e (length xs) refl rises l
 
-  arc-alike : (i : ℕ) → i < e - a → arcIn (part_of T a e) s (0 + i) ≡ arcAt g s (a + i)
-  unfolding arcIn arcAt
-  arc-alike i l =
+  arc_alike : (i : ℕ) → i < e - a → arc_in (part_of T a e) s (0 + i) ≡ arc_at g s (a + i)
+  unfolding arc_in arc_at
+  arc_alike i l =
       λ k. record {
         source = s;
         ilabel = (part_at T.arcs.ilabels a (e - a) i (pos 0) l ∙ ap (λ (xs : List ℤ). get_or xs (a + i) (pos 0)) (sym of.ilabels)) k;
@@ -114,17 +114,17 @@ module _ (g : Graph) (pass : Pass) (T : Tables) (good : GoodGraph g) (of : Table
         target = (part_at T.arcs.nextstates a (e - a) i 0 l ∙ ap (λ (xs : List ℕ). get_or xs (a + i) 0) (sym of.nextstates)) k;
       }
 
-  arcs-by : arcsOf g s ≡ map (arcAt g s) (range a (e - a))
-  unfolding arcsOf
-  arcs-by = sym (ap₂ (λ (x y : ℕ). map (arcAt g s) (range x (y - x))) begins ends)
+  arcs_by_lem : arcs_of g s ≡ map (arc_at g s) (range a (e - a))
+  unfolding arcs_of
+  arcs_by_lem = sym (ap₂ (λ (x y : ℕ). map (arc_at g s) (range x (y - x))) begins ends)
 
-  pub arcs-are : arcsOf g s ≡ arcsFrom (part_of T a e) s 0
-  arcs-are =
+  pub arcs_are : arcs_of g s ≡ arcs_from (part_of T a e) s 0
+  arcs_are =
       let n : e - a ≡ length (slice a e T.arcs.ilabels) - 0 = let z = long T.arcs.ilabels inside.0 in omega arith in
-      arcs-by ∙ sym (ranges-alike (arcIn (part_of T a e) s) (arcAt g s) 0 a (e - a) arc-alike) ∙ ap (λ (k : ℕ). map (arcIn (part_of T a e) s) (range 0 k)) n
+      arcs_by_lem ∙ sym (ranges_alike (arc_in (part_of T a e) s) (arc_at g s) 0 a (e - a) arc_alike) ∙ ap (λ (k : ℕ). map (arc_in (part_of T a e) s) (range 0 k)) n
 
-  pub part-of : PartOf g pass (part_of T a e) s
-  part-of =
+  pub part_of_lem : PartOf g pass (part_of T a e) s
+  part_of_lem =
       record {
         olabels = long T.arcs.olabels inside.1 ∙ sym (long T.arcs.ilabels inside.0);
         weights = long T.arcs.weights inside.2 ∙ sym (long T.arcs.ilabels inside.0);
@@ -135,10 +135,10 @@ module _ (g : Graph) (pass : Pass) (T : Tables) (good : GoodGraph g) (of : Table
         good = λ i l. sound i (let z = long T.arcs.ilabels inside.0 in omega arith);
       }
     where
-      sound : (i : ℕ) → i < e - a → GoodArc g (arcIn (part_of T a e) s i)
+      sound : (i : ℕ) → i < e - a → GoodArc g (arc_in (part_of T a e) s i)
       sound i l =
           let same : 0 + i ≡ i = omega arith in
-          subst (λ (j : ℕ). GoodArc g (arcIn (part_of T a e) s j)) same (subst (GoodArc g) (sym (arc-alike i l)) (good.arc s (arcAt g s (a + i)) (rw arcs-by (in-range (arcAt g s) a (e - a) i l))))
+          subst (λ (j : ℕ). GoodArc g (arc_in (part_of T a e) s j)) same (subst (GoodArc g) (sym (arc_alike i l)) (good.arc s (arc_at g s (a + i)) (rw arcs_by_lem (in_range (arc_at g s) a (e - a) i l))))
 
 -- ---- from the state to its part
 
@@ -152,26 +152,26 @@ module _ {g : Setting} {m : Lent} {qs eps : List ℕ} {pass : Pass} {T : Tables}
   abbrev last : ℕ
   last = get_or T.offsets (s + 1) 0
 
-  pub offset-room : s + 1 < length T.offsets
-  offset-room = two-offsets G.H.graph pass T G.ground.good G.of s below
+  pub offset_room : s + 1 < length T.offsets
+  offset_room = two_offsets G.H.graph pass T G.ground.good G.of s below
 
   part_room : (first ≤ last) × (last ≤ length T.arcs.ilabels) × (last ≤ length T.arcs.olabels) × (last ≤ length T.arcs.weights) × (last ≤ length T.arcs.nextstates) × (last ≤ 1_048_576)
   part_room =
       let i = inside G.H.graph pass T G.ground.good G.of s below in
-      let few : last ≤ 1_048_576 = let z = G.ground.good.shape.arcs-few in let k = ap length G.of.ilabels in let j = i.0 in omega arith in
+      let few : last ≤ 1_048_576 = let z = G.ground.good.shape.arcs_few in let k = ap length G.of.ilabels in let j = i.0 in omega arith in
       (rises G.H.graph pass T G.ground.good G.of s below, i.0, i.1, i.2, i.3, few)
 
-  abbrev given-all : AllGiven g m qs eps pass (part_of T first last) x source
-  given-all = record { H = G.H; t = G.t; s = s; w = G.w; done = G.done; ground = G.ground; at = G.at; token = G.token; of = part-of G.H.graph pass T G.ground.good G.of s below }
+  abbrev given_all : AllGiven g m qs eps pass (part_of T first last) x source
+  given_all = record { H = G.H; t = G.t; s = s; w = G.w; done = G.done; ground = G.ground; at = G.at; token = G.token; of = part_of_lem G.H.graph pass T G.ground.good G.of s below }
 
   module _ (a e : ℕ) (a-is : a ≡ first) (e-is : e ≡ last) where
     pub bounds : (a ≤ e) × (e ≤ length T.arcs.ilabels) × (e ≤ length T.arcs.olabels) × (e ≤ length T.arcs.weights) × (e ≤ length T.arcs.nextstates) × (e ≤ 1_048_576)
     bounds = rw (a-is, e-is) part_room
 
-    pub all-given : AllGiven g m qs eps pass (part_of T a e) x source
-    all-given = rw (a-is, e-is) given-all
+    pub all_given : AllGiven g m qs eps pass (part_of T a e) x source
+    all_given = rw (a-is, e-is) given_all
 
-    pub state-done : (m' : Lent) (qs' : List ℕ) (r : Passed) → AllIs g m m' qs qs' eps pass (part_of T a e) x source r → PassedBy g m' qs' G.done G.t.path (state_of G) r
-    state-done m' qs' r A =
+    pub state_done : (m' : Lent) (qs' : List ℕ) (r : Passed) → AllIs g m m' qs qs' eps pass (part_of T a e) x source r → PassedBy g m' qs' G.done G.t.path (state_of G) r
+    state_done m' qs' r A =
         let done : AllIs g m m' qs qs' eps pass (part_of T first last) x source r = rw (a-is, e-is) at A in
-        subst (λ (xs : List Arc). PassedBy g m' qs' G.done G.t.path (arriveAll G.H (passOf pass T.arcs.loglikes) G.t xs G.w) r) (sym (arcs-are G.H.graph pass T G.ground.good G.of s below)) (done given-all)
+        subst (λ (xs : List Arc). PassedBy g m' qs' G.done G.t.path (arrive_all G.H (pass_of pass T.arcs.loglikes) G.t xs G.w) r) (sym (arcs_are G.H.graph pass T G.ground.good G.of s below)) (done given_all)

@@ -12,12 +12,12 @@ use Rattle.arrivals.specs.declared.Setting.{Setting}
 use Rattle.arrivals.specs.declared.Arrived.{Arrived}
 use Rattle.arrivals.specs.Arrival.{ArrivalIs}
 use Rattle.arrivals.specs.Stood.{Given}
-use Rattle.arrivals.specs.Arrives.{ArriveIs, comesOf}
+use Rattle.arrivals.specs.Arrives.{ArriveIs, comes_of}
 use Rattle.arcs.specs.declared.Pass.{Pass}
 use Rattle.arcs.specs.declared.Work.{Work}
 use Rattle.arcs.specs.declared.Passed.{Passed}
-use Rattle.arcs.specs.Part.{passOf, SourceIs}
-use Rattle.arcs.specs.Passed.{Ground, goingOf, At, PassedBy}
+use Rattle.arcs.specs.Part.{pass_of, SourceIs}
+use Rattle.arcs.specs.Passed.{Ground, going_of, At, PassedBy}
 use Rattle.arcs.specs.Finish.{FinishIs, finished}
 
 pub record WholeGiven (g : Setting) (m : Lent) (qs eps : List ℕ) (pass : Pass) (x : Work) (source : Stored) (a : Arrival) : Type 0 where
@@ -29,40 +29,40 @@ pub record WholeGiven (g : Setting) (m : Lent) (qs eps : List ℕ) (pass : Pass)
   pub done : Table
   pub ground : Ground g H done eps (length qs)
   pub at : At g m qs x done t.path w
-  pub arrival : ArrivalIs H (passOf pass loglikes) t arc a
+  pub arrival : ArrivalIs H (pass_of pass loglikes) t arc a
   pub token : SourceIs source t
   pub target : a.target < g.states
 
 abbrev pub WholeIs : (g : Setting) → (m m' : Lent) → (qs qs' eps : List ℕ) → Pass → Work → Stored → Arrival → Passed → Type 0
-WholeIs g m m' qs qs' eps pass x source a r = (G : WholeGiven g m qs eps pass x source a) → PassedBy g m' qs' G.done G.t.path (arrive G.H (passOf pass G.loglikes) G.t G.arc G.w) r
+WholeIs g m m' qs qs' eps pass x source a r = (G : WholeGiven g m qs eps pass x source a) → PassedBy g m' qs' G.done G.t.path (arrive G.H (pass_of pass G.loglikes) G.t G.arc G.w) r
 
 module _ {g : Setting} {m : Lent} {qs eps : List ℕ} {pass : Pass} {x : Work} {source : Stored} {a : Arrival} (G : WholeGiven g m qs eps pass x source a) where
   -- what the arc itself is given
-  abbrev pub arc-given : Given g m x.cutoff (goingOf x) source a
-  arc-given =
+  abbrev pub arc_given : Given g m x.cutoff (going_of x) source a
+  arc_given =
       record {
         H = G.H;
-        P = passOf pass G.loglikes;
+        P = pass_of pass G.loglikes;
         t = G.t;
         arc = G.arc;
         w = G.w;
         done = G.done;
         pass = G.ground.pass;
         stood = G.at.stood;
-        cutoff-is = G.at.cutoff;
+        cutoff_is = G.at.cutoff;
         arrival = G.arrival;
         phone = G.token.phone;
         target = G.target;
       }
 
-  pub whole : (tk tk' : List ℕ) (sm : List Float) (rs : List ℕ) (rl : List ℤ) (gs : List Float) (qs' : List ℕ) (came : Arrived) (r : Passed) → length tk' ≡ length tk → ArriveIs g m (lent tk sm rs rl gs) x.cutoff (goingOf x) source a came
-      → FinishIs tk tk' eps qs qs' g.side pass x a came r → PassedBy g (lent tk' sm rs rl gs) qs' G.done G.t.path (arrive G.H (passOf pass G.loglikes) G.t G.arc G.w) r
+  pub whole : (tk tk' : List ℕ) (sm : List Float) (rs : List ℕ) (rl : List ℤ) (gs : List Float) (qs' : List ℕ) (came : Arrived) (r : Passed) → length tk' ≡ length tk → ArriveIs g m (lent tk sm rs rl gs) x.cutoff (going_of x) source a came
+      → FinishIs tk tk' eps qs qs' g.side pass x a came r → PassedBy g (lent tk' sm rs rl gs) qs' G.done G.t.path (arrive G.H (pass_of pass G.loglikes) G.t G.arc G.w) r
   unfolding arrive
   whole tk tk' sm rs rl gs qs' came r long came-by ends =
-      finished G.ground tk tk' sm rs rl gs long qs qs' refl pass G.loglikes m G.t G.arc x a G.w G.at G.arrival.total G.arrival.target G.target (comesOf arc-given) came r (came-by arc-given) ends
+      finished G.ground tk tk' sm rs rl gs long qs qs' refl pass G.loglikes m G.t G.arc x a G.w G.at G.arrival.total G.arrival.target G.target (comes_of arc_given) came r (came-by arc_given) ends
 
   -- what safety asks of its end
-  pub end-asks : (tk : List ℕ) → length tk ≡ length m.tokens → (g.side ≤ 1) × (a.target * 8 + 8 ≤ length tk) × (a.target < length eps)
-  end-asks tk long =
+  pub end_asks : (tk : List ℕ) → length tk ≡ length m.tokens → (g.side ≤ 1) × (a.target * 8 + 8 ≤ length tk) × (a.target < length eps)
+  end_asks tk long =
       let low = G.target in
-      (G.ground.pass.side, let z = G.at.stood.places.tokens in omega arith, let z = G.ground.eps-long in omega arith)
+      (G.ground.pass.side, let z = G.at.stood.places.tokens in omega arith, let z = G.ground.eps_long in omega arith)

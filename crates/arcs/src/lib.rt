@@ -4,9 +4,9 @@ ghost use Rattle.std.specs.Prelude.{◌≡◌, ◌+◌, ◌*◌, ◌≤◌, ◌<
 ghost use Rattle.std.specs.Int.Signed.{non_neg};
 ghost use Rattle.model.specs.Basics.{0f};
 ghost use Rattle.stores.specs.Rep.{lent};
-ghost use Rattle.arcs.specs.Part.{takesLabel, part, Taken, byLabel, Labelled, HeardAt, PhoneAsks, totalIn, phoneIn, arrivalIn, lowerBy};
-ghost use Rattle.arcs.specs.Passed.{movedBy, PushIs};
-ghost use Rattle.arcs.specs.Finish.{requeuesAt, WinnerIs, JoinedIs, FinishIs};
+ghost use Rattle.arcs.specs.Part.{takes_label, part, Taken, by_label, Labelled, HeardAt, PhoneAsks, total_in, phone_in, arrival_in, lower_by};
+ghost use Rattle.arcs.specs.Passed.{moved_by, PushIs};
+ghost use Rattle.arcs.specs.Finish.{requeues_at, WinnerIs, JoinedIs, FinishIs};
 ghost use Rattle.arcs.specs.Whole.{WholeGiven, WholeIs};
 ghost use Rattle.arcs.specs.All.{AllGiven, StepIs, AllIs};
 ghost use Rattle.arcs.specs.State.{tables, StateGiven, StateIs};
@@ -40,7 +40,7 @@ pub enum Passed {
 // The emitting pass takes the arcs with a label, the other one those without.
 pub fn takes(ilabels: &[i32], pass: Pass, i: usize) -> bool
     requires { i < length ilabels.now }
-    ensures { result ≡ takesLabel pass (get_or ilabels.now i (pos 0)) }
+    ensures { result ≡ takes_label pass (get_or ilabels.now i (pos 0)) }
 {
     match pass {
         Pass::Emitting(_, _) => ilabels[i] != 0,
@@ -57,8 +57,8 @@ fn number_at(table: &[i32], i: usize) -> usize
 }
 
 pub fn loglike(ilabels: &[i32], tid2pdf: &[i32], loglikes: &[f32], i: usize) -> f32
-    requires { Labelled ilabels.now tid2pdf.now i × (byLabel ilabels.now tid2pdf.now i < length loglikes.now) }
-    ensures { result ≡ get_or loglikes.now (byLabel ilabels.now tid2pdf.now i) 0f }
+    requires { Labelled ilabels.now tid2pdf.now i × (by_label ilabels.now tid2pdf.now i < length loglikes.now) }
+    ensures { result ≡ get_or loglikes.now (by_label ilabels.now tid2pdf.now i) 0f }
 {
     loglikes[number_at(tid2pdf, number_at(ilabels, i))]
 }
@@ -74,7 +74,7 @@ fn total(
     i: usize,
 ) -> f32
     requires { (i < length weights.now) × HeardAt pass ilabels.now tid2pdf.now loglikes.now i }
-    ensures { result ≡ totalIn pass ilabels.now weights.now tid2pdf.now loglikes.now cost i }
+    ensures { result ≡ total_in pass ilabels.now weights.now tid2pdf.now loglikes.now cost i }
 {
     match pass {
         Pass::Emitting(offset, _) => {
@@ -87,7 +87,7 @@ fn total(
 // The phone after an arc. An epsilon arc changes no phone.
 fn phone_after(ilabels: &[i32], tid2phone: &[i32], pass: Pass, phone: u32, i: usize) -> u32
     requires { PhoneAsks pass ilabels.now tid2phone.now i }
-    ensures { result ≡ phoneIn pass ilabels.now tid2phone.now phone i }
+    ensures { result ≡ phone_in pass ilabels.now tid2phone.now phone i }
 {
     match pass {
         Pass::Emitting(_, _) => number_at(tid2phone, number_at(ilabels, i)) as u32,
@@ -109,7 +109,7 @@ fn arrival_at(
     i: usize,
 ) -> Arrival
     requires { Taken pass (part ilabels.now olabels.now weights.now nextstates.now tid2pdf.now tid2phone.now loglikes.now) i }
-    ensures { result ≡ arrivalIn pass (part ilabels.now olabels.now weights.now nextstates.now tid2pdf.now tid2phone.now loglikes.now) source i }
+    ensures { result ≡ arrival_in pass (part ilabels.now olabels.now weights.now nextstates.now tid2pdf.now tid2phone.now loglikes.now) source i }
 {
     let total = total(ilabels, weights, tid2pdf, loglikes, pass, source.cost, i);
     let phone = phone_after(ilabels, tid2phone, pass, source.phone, i);
@@ -124,7 +124,7 @@ fn arrival_at(
 
 // In the emitting pass, total + adaptive beam may lower the cutoff.
 pub fn lower(pass: Pass, total: f32, cutoff: f32) -> f32
-    ensures { result ≡ lowerBy pass total cutoff }
+    ensures { result ≡ lower_by pass total cutoff }
 {
     match pass {
         Pass::Emitting(_, adaptive) => {
@@ -137,7 +137,7 @@ pub fn lower(pass: Pass, total: f32, cutoff: f32) -> f32
 
 // Where a pass stands after an arc that was not cut off.
 fn moved(pass: Pass, w: Work, total: f32, y: Going) -> Work
-    ensures { result ≡ movedBy pass w total y }
+    ensures { result ≡ moved_by pass w total y }
 {
     Work {
         used: y.used,
@@ -179,7 +179,7 @@ fn push_winner(queue: &mut [u32], pass: Pass, w: Work, s: u32) -> Passed
 // Whether a join sends the state back to the queue: in the nonemitting pass, where it has epsilon arcs, and at most once.
 fn requeues(tokens: &[u32], eps: &[u8], side: u32, pass: Pass, s: u32) -> bool
     requires { (side ≤ 1) × (s * 8 + 8 ≤ length tokens.now) × (s < length eps.now) }
-    ensures { result ≡ requeuesAt pass tokens.now eps.now side s }
+    ensures { result ≡ requeues_at pass tokens.now eps.now side s }
 {
     match pass {
         Pass::Emitting(_, _) => false,

@@ -4,12 +4,12 @@ use Rattle.std.proofs.Common.{sym, ap, ap₂, ◌∙◌, arith, lt-ltb, le-ltb}
 use Rattle.std.proofs.Math.Option.{Option, none, some}
 use Rattle.model.specs.Basics.{◌≺◌, ◌≼◌, ◌⊕◌, ◌⊖◌, eqℤ, nonzero}
 use Rattle.model.specs.Graph.{Arc}
-use Rattle.model.specs.Path.{Token, isLink}
-use Rattle.model.specs.Arrive.{Pass, total, phoneAfter, Here, Meets as Met, cutOff, vacant, better, notBetter, against, meets, stepOn}
+use Rattle.model.specs.Path.{Token, is_link}
+use Rattle.model.specs.Arrive.{Pass, total, phone_after, Here, Meets as Met, cut_off_lem, vacant, better, not_better, against, meets, step_on}
 use Rattle.tokens.specs.declared.Token.{Token as Stored}
 use Rattle.tokens.specs.Layout.{Cell}
 use Rattle.records.specs.History.{History}
-use Rattle.stores.specs.Shown.{Shows, showsNone, showsToken}
+use Rattle.stores.specs.Shown.{Shows, shows_none, shows_token}
 use Rattle.arrivals.specs.declared.Arrival.{Arrival}
 use Rattle.arrivals.specs.declared.Meets.{Meets}
 use Rattle.arrivals.specs.declared.Meets.TheVariants.{CutOff, Vacant, Better, NotBetter}
@@ -20,80 +20,80 @@ pub record ArrivalIs (h : Here) (p : Pass) (t : Token) (arc : Arc) (a : Arrival)
   pub total : a.total ≡ total h.graph p t arc
   pub graph : a.graph ≡ t.graph ⊕ arc.weight
   pub word : a.word ≡ arc.olabel
-  pub phone : pos a.phone ≡ phoneAfter h.graph p t arc
+  pub phone : pos a.phone ≡ phone_after h.graph p t arc
   pub target : a.target ≡ arc.target
 
 -- the phone that it starts, 0 where it does not change
-abbrev pub startsOf : Stored → Arrival → ℕ
-startsOf s a = cond (a.phone == s.phone) 0 a.phone
+abbrev pub starts_of : Stored → Arrival → ℕ
+starts_of s a = cond (a.phone == s.phone) 0 a.phone
 
 -- it has a word or changes the phone
 abbrev pub links : Stored → Arrival → Bool
-links s a = nonzero a.word || nonzero (pos (startsOf s a))
+links s a = nonzero a.word || nonzero (pos (starts_of s a))
 
 -- ---- what it meets
 
-unfoldable pub meetsAt : (cutoff total : Float) → Cell → Meets
-meetsAt cut tot c = cond (cut ≼ tot) CutOff (cond (nat_lt 0 c.held) (cond (tot ≺ c.cost) (Better (c.cost ⊖ tot)) (NotBetter (tot ⊖ c.cost))) Vacant)
+unfoldable pub meets_at : (cutoff total : Float) → Cell → Meets
+meets_at cut tot c = cond (cut ≼ tot) CutOff (cond (nat_lt 0 c.held) (cond (tot ≺ c.cost) (Better (c.cost ⊖ tot)) (NotBetter (tot ⊖ c.cost))) Vacant)
 
-abbrev pub isCutOff : Meets → Bool
-isCutOff CutOff = true
-isCutOff Vacant = false
-isCutOff (Better x) = false
-isCutOff (NotBetter x) = false
+abbrev pub is_cut_off : Meets → Bool
+is_cut_off CutOff = true
+is_cut_off Vacant = false
+is_cut_off (Better x) = false
+is_cut_off (NotBetter x) = false
 
 -- the model's answer, which names the token that is met too
 pub data MeetsIs : Meets → Met → Type 0 where
-  isCut : MeetsIs CutOff cutOff
-  isVacant : MeetsIs Vacant vacant
-  isBetter : (gap : Float) (held : Token) → MeetsIs (Better gap) (better gap held)
-  isNotBetter : (gap : Float) (held : Token) → MeetsIs (NotBetter gap) (notBetter gap held)
+  is_cut : MeetsIs CutOff cut_off_lem
+  is_vacant : MeetsIs Vacant vacant
+  is_better : (gap : Float) (held : Token) → MeetsIs (Better gap) (better gap held)
+  is_not_better : (gap : Float) (held : Token) → MeetsIs (NotBetter gap) (not_better gap held)
 
 -- ---- laws
 
-pub starts_is : (h : Here) (p : Pass) (t : Token) (arc : Arc) (a : Arrival) (s : Stored) (n : ℕ) (beside : Bool) → ArrivalIs h p t arc a → pos s.phone ≡ t.phone → pos (startsOf s a) ≡ (stepOn h p t arc n beside).starts
-unfolding stepOn
-starts_is h p t arc a s n beside i e = pos-cond (a.phone == s.phone) ∙ ap₂ (λ (x y : ℤ). cond (eqℤ x y) (pos 0) x) i.phone e
+pub starts_is : (h : Here) (p : Pass) (t : Token) (arc : Arc) (a : Arrival) (s : Stored) (n : ℕ) (beside : Bool) → ArrivalIs h p t arc a → pos s.phone ≡ t.phone → pos (starts_of s a) ≡ (step_on h p t arc n beside).starts
+unfolding step_on
+starts_is h p t arc a s n beside i e = pos_cond (a.phone == s.phone) ∙ ap₂ (λ (x y : ℤ). cond (eqℤ x y) (pos 0) x) i.phone e
   where
-    pos-cond : (b : Bool) → pos (cond b 0 a.phone) ≡ cond b (pos 0) (pos a.phone)
-    pos-cond true = refl
-    pos-cond false = refl
+    pos_cond : (b : Bool) → pos (cond b 0 a.phone) ≡ cond b (pos 0) (pos a.phone)
+    pos_cond true = refl
+    pos_cond false = refl
 
-pub links-is : (h : Here) (p : Pass) (t : Token) (arc : Arc) (a : Arrival) (s : Stored) (n : ℕ) (beside : Bool) → ArrivalIs h p t arc a → pos s.phone ≡ t.phone → links s a ≡ isLink (stepOn h p t arc n beside)
-unfolding stepOn
-links-is h p t arc a s n beside i e = ap₂ (λ (x y : ℤ). nonzero x || nonzero y) i.word (starts_is h p t arc a s n beside i e)
+pub links_is : (h : Here) (p : Pass) (t : Token) (arc : Arc) (a : Arrival) (s : Stored) (n : ℕ) (beside : Bool) → ArrivalIs h p t arc a → pos s.phone ≡ t.phone → links s a ≡ is_link (step_on h p t arc n beside)
+unfolding step_on
+links_is h p t arc a s n beside i e = ap₂ (λ (x y : ℤ). nonzero x || nonzero y) i.word (starts_is h p t arc a s n beside i e)
 
-pub cut-test : (cut tot : Float) (c : Cell) → isCutOff (meetsAt cut tot c) ≡ (cut ≼ tot)
-unfolding meetsAt
-cut-test cut tot c = go (cut ≼ tot) (nat_lt 0 c.held) (tot ≺ c.cost)
+pub cut_test : (cut tot : Float) (c : Cell) → is_cut_off (meets_at cut tot c) ≡ (cut ≼ tot)
+unfolding meets_at
+cut_test cut tot c = go (cut ≼ tot) (nat_lt 0 c.held) (tot ≺ c.cost)
   where
-    go : (b d e : Bool) → isCutOff (cond b CutOff (cond d (cond e (Better (c.cost ⊖ tot)) (NotBetter (tot ⊖ c.cost))) Vacant)) ≡ b
+    go : (b d e : Bool) → is_cut_off (cond b CutOff (cond d (cond e (Better (c.cost ⊖ tot)) (NotBetter (tot ⊖ c.cost))) Vacant)) ≡ b
     go true d e = refl
     go false true true = refl
     go false true false = refl
     go false false e = refl
 
-pub meets-is : (g : ℕ → History) (used : ℕ) (cut tot : Float) (c : Cell) (o : Option Token) → Shows g used c o → MeetsIs (meetsAt cut tot c) (meets cut tot o)
-unfolding meetsAt meets
-meets-is g used cut tot c o w = go (cut ≼ tot)
+pub meets_is : (g : ℕ → History) (used : ℕ) (cut tot : Float) (c : Cell) (o : Option Token) → Shows g used c o → MeetsIs (meets_at cut tot c) (meets cut tot o)
+unfolding meets_at meets
+meets_is g used cut tot c o w = go (cut ≼ tot)
   where
-    of-cost : (b : Bool) (x y : Float) (t : Token) → MeetsIs (cond b (Better x) (NotBetter y)) (cond b (better x t) (notBetter y t))
-    of-cost true x y t = isBetter x t
-    of-cost false x y t = isNotBetter y t
+    of_cost : (b : Bool) (x y : Float) (t : Token) → MeetsIs (cond b (Better x) (NotBetter y)) (cond b (better x t) (not_better y t))
+    of_cost true x y t = is_better x t
+    of_cost false x y t = is_not_better y t
 
-    of-place : (o : Option Token) → Shows g used c o → MeetsIs (cond (nat_lt 0 c.held) (cond (tot ≺ c.cost) (Better (c.cost ⊖ tot)) (NotBetter (tot ⊖ c.cost))) Vacant) (against tot o)
-    of-place none (showsNone e) = rw e isVacant
-    of-place (some t) (showsToken s e i) = rw (e, lt-ltb 0 (suc s.link) (omega arith), i.cost) (of-cost (tot ≺ t.cost) (t.cost ⊖ tot) (tot ⊖ t.cost) t)
+    of_place : (o : Option Token) → Shows g used c o → MeetsIs (cond (nat_lt 0 c.held) (cond (tot ≺ c.cost) (Better (c.cost ⊖ tot)) (NotBetter (tot ⊖ c.cost))) Vacant) (against tot o)
+    of_place none (shows_none e) = rw e is_vacant
+    of_place (some t) (shows_token s e i) = rw (e, lt-ltb 0 (suc s.link) (omega arith), i.cost) (of_cost (tot ≺ t.cost) (t.cost ⊖ tot) (tot ⊖ t.cost) t)
 
-    go : (b : Bool) → MeetsIs (cond b CutOff (cond (nat_lt 0 c.held) (cond (tot ≺ c.cost) (Better (c.cost ⊖ tot)) (NotBetter (tot ⊖ c.cost))) Vacant)) (elim b as (λ x. Met) [ true ↦ cutOff | false ↦ against tot o ])
-    go true = isCut
-    go false = of-place o w
+    go : (b : Bool) → MeetsIs (cond b CutOff (cond (nat_lt 0 c.held) (cond (tot ≺ c.cost) (Better (c.cost ⊖ tot)) (NotBetter (tot ⊖ c.cost))) Vacant)) (elim b as (λ x. Met) [ true ↦ cut_off_lem | false ↦ against tot o ])
+    go true = is_cut
+    go false = of_place o w
 
 -- two places that show the same token are met alike
-pub meets-same : (g g' : ℕ → History) (used used' : ℕ) (cut tot : Float) (c c' : Cell) (o : Option Token) → Shows g used c o → Shows g' used' c' o → meetsAt cut tot c ≡ meetsAt cut tot c'
-unfolding meetsAt
-meets-same g g' used used' cut tot c c' none (showsNone e) (showsNone d) = rw (le-ltb 0 c.held (omega arith), le-ltb 0 c'.held (omega arith))
-meets-same g g' used used' cut tot c c' (some t) (showsToken x e i) (showsToken y d j) =
-    let cost-is : c.cost ≡ c'.cost = ap (λ (z : Cell). z.cost) e ∙ i.cost ∙ sym (ap (λ (z : Cell). z.cost) d ∙ j.cost) in
-    let held-is : ltb 0 c.held ≡ ltb 0 c'.held = lt-ltb 0 c.held (let z = ap (λ (z : Cell). z.held) e in omega arith) ∙ sym (lt-ltb 0 c'.held (let z = ap (λ (z : Cell). z.held) d in omega arith)) in
-    λ k. cond (cut ≼ tot) CutOff (cond (held-is k) (cond (tot ≺ cost-is k) (Better (cost-is k ⊖ tot)) (NotBetter (tot ⊖ cost-is k))) Vacant)
+pub meets_same : (g g' : ℕ → History) (used used' : ℕ) (cut tot : Float) (c c' : Cell) (o : Option Token) → Shows g used c o → Shows g' used' c' o → meets_at cut tot c ≡ meets_at cut tot c'
+unfolding meets_at
+meets_same g g' used used' cut tot c c' none (shows_none e) (shows_none d) = rw (le-ltb 0 c.held (omega arith), le-ltb 0 c'.held (omega arith))
+meets_same g g' used used' cut tot c c' (some t) (shows_token x e i) (shows_token y d j) =
+    let cost_is : c.cost ≡ c'.cost = ap (λ (z : Cell). z.cost) e ∙ i.cost ∙ sym (ap (λ (z : Cell). z.cost) d ∙ j.cost) in
+    let held_is : ltb 0 c.held ≡ ltb 0 c'.held = lt-ltb 0 c.held (let z = ap (λ (z : Cell). z.held) e in omega arith) ∙ sym (lt-ltb 0 c'.held (let z = ap (λ (z : Cell). z.held) d in omega arith)) in
+    λ k. cond (cut ≼ tot) CutOff (cond (held_is k) (cond (tot ≺ cost_is k) (Better (cost_is k ⊖ tot)) (NotBetter (tot ⊖ cost_is k))) Vacant)

@@ -4,29 +4,29 @@ use Rattle.std.proofs.Math.Path.{refl, ap, subst}
 use Rattle.std.proofs.Common.{sym, ◌∙◌, inl, inr}
 use native.Mathlib.Omega.{arith}
 use Rattle.std.proofs.Math.Option.{Option, none, some}
-use Rattle.lists.specs.Tests.{case, or-neither}
+use Rattle.lists.specs.Tests.{case, or_neither}
 use Rattle.real32.specs.Small.{tame}
 use Rattle.model.specs.Basics.{◌≺◌, ◌≼◌, ◌⊖◌, Outcome, ok}
 use Rattle.model.specs.Graph.{Arc}
 use Rattle.model.specs.Path.{Path, Token, paths}
-use Rattle.model.specs.Arrive.{Pass, total, Here, Work, Meets as Met, cutOff, vacant, better, notBetter, against, meets, inHand, Change, arcCut, tokenStays, tokenWins, tokenJoins, settle, passed, put, place_of}
-use Rattle.model.specs.Came.{SettledBy, settle-settled}
+use Rattle.model.specs.Arrive.{Pass, total, Here, Work, Meets as Met, cut_off_lem, vacant, better, not_better, against, meets, in_hand_lem, Change, arc_cut, token_stays, token_wins, token_joins, settle, passed, put, place_of}
+use Rattle.model.specs.Came.{SettledBy, settle_settled}
 use Rattle.model.specs.Accepted.{Ok}
 use Rattle.tokens.specs.declared.Token.{Token as Stored}
-use Rattle.tokens.specs.Layout.{Cell, cell_at, requeuedAt, place_in, TokenPut, tokenOf}
+use Rattle.tokens.specs.Layout.{Cell, cell_at, requeued_at, place_in, TokenPut, token_of}
 use Rattle.records.specs.History.{History}
 use Rattle.records.specs.Layout.{store, Room}
 use Rattle.records.specs.Stands.{Stands}
 use Rattle.compaction.specs.declared.Made.{Made}
 use Rattle.compaction.specs.Count.{Known, Tight}
 use Rattle.compaction.specs.Carried.{Holds}
-use Rattle.copy_laws.specs.Tables.{vacant as vacancies, vacant-fill, vacant-same}
-use Rattle.stores.specs.Shown.{Shows, showsNone, showsToken, Shown}
-use Rattle.stores.specs.Grown.{Grown, is-grown, shown-grown}
-use Rattle.stores.specs.Tables.{shown-put, shown-aside}
-use Rattle.stores.specs.Rep.{Lent, lent, store_of, Rep, rep-as, room_as, Old}
-use Rattle.stores.specs.Roots.{rep-known, rep-covers, rep_holds}
-use Rattle.stores.specs.Moved.{rep-moved}
+use Rattle.copy_laws.specs.Tables.{vacant as vacancies, vacant_fill, vacant_same}
+use Rattle.stores.specs.Shown.{Shows, shows_none, shows_token, Shown}
+use Rattle.stores.specs.Grown.{Grown, is_grown, shown_grown}
+use Rattle.stores.specs.Tables.{shown_put, shown_aside}
+use Rattle.stores.specs.Rep.{Lent, lent, store_of, Rep, rep_as, room_as, Old}
+use Rattle.stores.specs.Roots.{rep_known, rep_covers, rep_holds}
+use Rattle.stores.specs.Moved.{rep_moved}
 use Rattle.arrivals.specs.declared.Arrival.{Arrival}
 use Rattle.arrivals.specs.declared.Setting.{Setting}
 use Rattle.arrivals.specs.declared.Going.{Going}
@@ -35,22 +35,22 @@ use Rattle.arrivals.specs.declared.Settled.{Settled}
 use Rattle.arrivals.specs.declared.Settled.TheVariants.{Refused as NotSettled, Stays as Stay, Wins as Win, Joins as Join}
 use Rattle.arrivals.specs.declared.Arrived.{Arrived}
 use Rattle.arrivals.specs.declared.Arrived.TheVariants.{Refused, Cut, Stays, Wins, Joins}
-use Rattle.arrivals.specs.Arrival.{links, isCutOff, meetsAt, cut-test, meets-same}
-use Rattle.arrivals.specs.Settled.{withLink, counts, SettleAsks, SettledIs}
-use Rattle.arrivals.specs.Settles.{Scene, TokenOn, SettleEnds, endsRefused, endsStays, endsWins, endsJoins, settled_is}
-use Rattle.arrivals.specs.Room.{RoomIs, notWanted, roomMade}
-use Rattle.arrivals.specs.Stood.{Stood, Given, ArrivedBy, arrivedRefused, arrivedCut, arrivedStays, arrivedWins, arrivedJoins}
+use Rattle.arrivals.specs.Arrival.{links, is_cut_off, meets_at, cut_test, meets_same}
+use Rattle.arrivals.specs.Settled.{with_link, counts, SettleAsks, SettledIs}
+use Rattle.arrivals.specs.Settles.{Scene, TokenOn, SettleEnds, ends_refused, ends_stays, ends_wins, ends_joins, settled_is}
+use Rattle.arrivals.specs.Room.{RoomIs, not_wanted, room_made}
+use Rattle.arrivals.specs.Stood.{Stood, Given, ArrivedBy, arrived_refused, arrived_cut, arrived_stays, arrived_wins, arrived_joins}
 
 abbrev pub going : (used seq link : ℕ) → Going
 going u q l = record { used = u; seq = q; link = l }
 
 -- what the definition gives
-abbrev pub comesOf : {g : Setting} {m : Lent} {cutoff : Float} {y : Going} {x : Stored} {a : Arrival} → Given g m cutoff y x a → Outcome Change
-comesOf G = settle G.H G.P G.t G.arc G.w (meets G.w.cutoff (total G.H.graph G.P G.t G.arc) (place_of G.w G.arc))
+abbrev pub comes_of : {g : Setting} {m : Lent} {cutoff : Float} {y : Going} {x : Stored} {a : Arrival} → Given g m cutoff y x a → Outcome Change
+comes_of G = settle G.H G.P G.t G.arc G.w (meets G.w.cutoff (total G.H.graph G.P G.t G.arc) (place_of G.w G.arc))
 
 -- what one arriving arc leaves
 abbrev pub ArriveIs : (g : Setting) → (m m' : Lent) → (cutoff : Float) → Going → Stored → Arrival → Arrived → Type 0
-ArriveIs g m m' cutoff y x a r = (G : Given g m cutoff y x a) → ArrivedBy g m m' G.H G.P G.t G.arc G.w G.done (comesOf G) r
+ArriveIs g m m' cutoff y x a r = (G : Given g m cutoff y x a) → ArrivedBy g m m' G.H G.P G.t G.arc G.w G.done (comes_of G) r
 
 -- ---- seqs
 
@@ -60,54 +60,54 @@ module _ (H : Here) (P : Pass) (t : Token) (arc : Arc) (w : Work) (cut tot : Flo
   Left q = q + vacancies (slice_set w.table arc.target (some u)) < 2 ^ 32
 
   filled : place_of w arc ≡ none → (q : ℕ) → q ≡ suc w.seq → Left q
-  filled e q d = omega (arith, vacant-fill w.table arc.target u inside e)
+  filled e q d = omega (arith, vacant_fill w.table arc.target u inside e)
 
   replaced : (held : Token) → place_of w arc ≡ some held → Left w.seq
-  replaced held e = omega (arith, vacant-same w.table arc.target held u e)
+  replaced held e = omega (arith, vacant_same w.table arc.target held u e)
 
-  settled-by : (z : Change) (m : Met) → settle H P t arc w m ≡ ok z → SettledBy H P t arc w m z
-  settled-by z m e = subst (Ok (SettledBy H P t arc w m)) e (settle-settled H P t arc w m)
+  settled_by : (z : Change) (m : Met) → settle H P t arc w m ≡ ok z → SettledBy H P t arc w m z
+  settled_by z m e = subst (Ok (SettledBy H P t arc w m)) e (settle_settled H P t arc w m)
 
-  abbrev seqOf : Change → ℕ
-  seqOf arcCut = 0
-  seqOf tokenStays = 0
-  seqOf (tokenWins v q) = suc q
-  seqOf (tokenJoins v) = 0
+  abbrev seq_of : Change → ℕ
+  seq_of arc_cut = 0
+  seq_of token_stays = 0
+  seq_of (token_wins v q) = suc q
+  seq_of (token_joins v) = 0
 
   -- by what the arc met
-  abbrev of-met : Bool → Option Token → Met
-  of-met b o = elim b as (λ x. Met) [ true ↦ cutOff | false ↦ against tot o ]
+  abbrev of_met : Bool → Option Token → Met
+  of_met b o = elim b as (λ x. Met) [ true ↦ cut_off_lem | false ↦ against tot o ]
 
-  abbrev of-cost : Bool → Token → Met
-  of-cost b held = cond b (better (held.cost ⊖ tot) held) (notBetter (tot ⊖ held.cost) held)
+  abbrev of_cost : Bool → Token → Met
+  of_cost b held = cond b (better (held.cost ⊖ tot) held) (not_better (tot ⊖ held.cost) held)
 
-  wins-left : (q : ℕ) (b : Bool) (o : Option Token) → place_of w arc ≡ o → settle H P t arc w (of-met b o) ≡ ok (tokenWins u q) → Left q
-  wins-left q true o e s = let z = ap seqOf (settled-by (tokenWins u q) cutOff s) in absurd (omega arith)
-  wins-left q false none e s = let z = ap seqOf (settled-by (tokenWins u q) vacant s).2 in filled e q (omega arith)
-  wins-left q false (some held) e s = go (tot ≺ held.cost) s
+  wins_left : (q : ℕ) (b : Bool) (o : Option Token) → place_of w arc ≡ o → settle H P t arc w (of_met b o) ≡ ok (token_wins u q) → Left q
+  wins_left q true o e s = let z = ap seq_of (settled_by (token_wins u q) cut_off_lem s) in absurd (omega arith)
+  wins_left q false none e s = let z = ap seq_of (settled_by (token_wins u q) vacant s).2 in filled e q (omega arith)
+  wins_left q false (some held) e s = go (tot ≺ held.cost) s
     where
-      go : (b : Bool) → settle H P t arc w (of-cost b held) ≡ ok (tokenWins u q) → Left q
-      go true s = let z = ap seqOf (settled-by (tokenWins u q) (better (held.cost ⊖ tot) held) s).2.2 in subst Left (omega arith) (replaced held e)
-      go false s = case (settled-by (tokenWins u q) (notBetter (tot ⊖ held.cost) held) s).1 (λ z. let k = ap seqOf z in absurd (omega arith)) (λ z. let k = ap seqOf z in absurd (omega arith))
+      go : (b : Bool) → settle H P t arc w (of_cost b held) ≡ ok (token_wins u q) → Left q
+      go true s = let z = ap seq_of (settled_by (token_wins u q) (better (held.cost ⊖ tot) held) s).2.2 in subst Left (omega arith) (replaced held e)
+      go false s = case (settled_by (token_wins u q) (not_better (tot ⊖ held.cost) held) s).1 (λ z. let k = ap seq_of z in absurd (omega arith)) (λ z. let k = ap seq_of z in absurd (omega arith))
 
-  abbrev joinsOf : Change → ℕ
-  joinsOf arcCut = 0
-  joinsOf tokenStays = 0
-  joinsOf (tokenWins v q) = 0
-  joinsOf (tokenJoins v) = 1
+  abbrev joins_of : Change → ℕ
+  joins_of arc_cut = 0
+  joins_of token_stays = 0
+  joins_of (token_wins v q) = 0
+  joins_of (token_joins v) = 1
 
-  joins-left : (b : Bool) (o : Option Token) → place_of w arc ≡ o → settle H P t arc w (of-met b o) ≡ ok (tokenJoins u) → Left w.seq
-  joins-left true o e s = let z = ap joinsOf (settled-by (tokenJoins u) cutOff s) in absurd (omega arith)
-  joins-left false none e s = let z = ap joinsOf (settled-by (tokenJoins u) vacant s).2 in absurd (omega arith)
-  joins-left false (some held) e s = replaced held e
+  joins_left : (b : Bool) (o : Option Token) → place_of w arc ≡ o → settle H P t arc w (of_met b o) ≡ ok (token_joins u) → Left w.seq
+  joins_left true o e s = let z = ap joins_of (settled_by (token_joins u) cut_off_lem s) in absurd (omega arith)
+  joins_left false none e s = let z = ap joins_of (settled_by (token_joins u) vacant s).2 in absurd (omega arith)
+  joins_left false (some held) e s = replaced held e
 
-  pub seqs-won : (q : ℕ) → settle H P t arc w (meets cut tot (place_of w arc)) ≡ ok (tokenWins u q) → Left q
+  pub seqs_won : (q : ℕ) → settle H P t arc w (meets cut tot (place_of w arc)) ≡ ok (token_wins u q) → Left q
   unfolding meets
-  seqs-won q = wins-left q (cut ≼ tot) (place_of w arc) refl
+  seqs_won q = wins_left q (cut ≼ tot) (place_of w arc) refl
 
-  pub seqs-joined : settle H P t arc w (meets cut tot (place_of w arc)) ≡ ok (tokenJoins u) → Left w.seq
+  pub seqs_joined : settle H P t arc w (meets cut tot (place_of w arc)) ≡ ok (token_joins u) → Left w.seq
   unfolding meets
-  seqs-joined = joins-left (cut ≼ tot) (place_of w arc) refl
+  seqs_joined = joins_left (cut ≼ tot) (place_of w arc) refl
 
 -- ---- what the tests say
 
@@ -134,55 +134,55 @@ module _ (g : Setting) (m : Lent) (cutoff : Float) (y : Going) (x : Stored) (a :
   cell = cell_at m.tokens m.sums (place_in g.side a.target)
 
   abbrev By : Lent → Arrived → Type 0
-  By m' r = ArrivedBy g m m' H P t arc w G.done (comesOf G) r
+  By m' r = ArrivedBy g m m' H P t arc w G.done (comes_of G) r
 
   -- the code's test is the model's
-  test-is : (w.cutoff ≼ tot) ≡ isCutOff (meetsAt cutoff a.total cell)
-  test-is = ap (λ (z : Float). z ≼ tot) G.cutoff-is ∙ ap (λ (z : Float). cutoff ≼ z) (sym G.arrival.total) ∙ sym (cut-test cutoff a.total cell)
+  test_is : (w.cutoff ≼ tot) ≡ is_cut_off (meets_at cutoff a.total cell)
+  test_is = ap (λ (z : Float). z ≼ tot) G.cutoff_is ∙ ap (λ (z : Float). cutoff ≼ z) (sym G.arrival.total) ∙ sym (cut_test cutoff a.total cell)
 
   -- at or above the cutoff
-  pub cut-is : isCutOff (meetsAt cutoff a.total cell) ≡ true → (m' : Lent) → m' ≡ m → By m' Cut
+  pub cut_is : is_cut_off (meets_at cutoff a.total cell) ≡ true → (m' : Lent) → m' ≡ m → By m' Cut
   unfolding meets settle
-  cut-is e m' q = rw (test-is ∙ e, meets) (arrivedCut q)
+  cut_is e m' q = rw (test_is ∙ e, meets) (arrived_cut q)
 
-  pub old-is : Old g.side g.states g.cap m G.done
-  old-is = let r = G.stood.rep in record { h = r.h; used = y.used; fits = G.stood.fits; stands = r.stands; finished = r.finished }
+  pub old_is : Old g.side g.states g.cap m G.done
+  old_is = let r = G.stood.rep in record { h = r.h; used = y.used; fits = G.stood.fits; stands = r.stands; finished = r.finished }
 
   -- the live paths, as the model lists them
-  live-is : (F : List Path → Type 0) → F (t.path ∷ (paths w.table ++ paths G.done)) → F (inHand H w t.path)
-  live-is F = subst (λ (qs : List Path). F (t.path ∷ (paths w.table ++ qs))) (sym G.pass.before)
+  live_is : (F : List Path → Type 0) → F (t.path ∷ (paths w.table ++ paths G.done)) → F (in_hand_lem H w t.path)
+  live_is F = subst (λ (qs : List Path). F (t.path ∷ (paths w.table ++ qs))) (sym G.pass.before)
 
   -- what safety asks first
   pub target_room : (a.target * 8 + 8 ≤ length m.tokens) × (a.target * 4 + 4 ≤ length m.sums)
   target_room = let p = G.stood.places in let l = G.target in (omega (arith, p.tokens), omega (arith, p.sums))
 
-  pub room-asks : Holds (store_of m) m.tokens (g.states * 2) y.used y.link
-  room-asks = rep_holds G.pass.side G.stood.rep g.cap G.stood.fits G.pass.small G.stood.places
+  pub room_asks : Holds (store_of m) m.tokens (g.states * 2) y.used y.link
+  room_asks = rep_holds G.pass.side G.stood.rep g.cap G.stood.fits G.pass.small G.stood.places
 
   -- 12, for the total
-  pub total-refused : isCutOff (meetsAt cutoff a.total cell) ≡ false → tame a.total ≡ false → By m (Refused 12)
+  pub total_refused : is_cut_off (meets_at cutoff a.total cell) ≡ false → tame a.total ≡ false → By m (Refused 12)
   unfolding meets settle
-  total-refused e q = go (place_of w arc)
+  total_refused e q = go (place_of w arc)
     where
       big : tame tot ≡ false
       big = ap tame (sym G.arrival.total) ∙ q
 
       go : (o : Option Token) → ArrivedBy g m m H P t arc w G.done (settle H P t arc w (meets w.cutoff tot o)) (Refused 12)
-      go none = rw (test-is ∙ e, meets, big) (arrivedRefused 12 (λ z. omega arith) old-is)
-      go (some u) = rw (test-is ∙ e, meets) (of-cost (tot ≺ u.cost))
+      go none = rw (test_is ∙ e, meets, big) (arrived_refused 12 (λ z. omega arith) old_is)
+      go (some u) = rw (test_is ∙ e, meets) (of_cost (tot ≺ u.cost))
         where
-          of-cost : (b : Bool) → ArrivedBy g m m H P t arc w G.done (settle H P t arc w (cond b (better (u.cost ⊖ tot) u) (notBetter (tot ⊖ u.cost) u))) (Refused 12)
-          of-cost true = rw big (arrivedRefused 12 (λ z. omega arith) old-is)
-          of-cost false = rw big (arrivedRefused 12 (λ z. omega arith) old-is)
+          of_cost : (b : Bool) → ArrivedBy g m m H P t arc w G.done (settle H P t arc w (cond b (better (u.cost ⊖ tot) u) (not_better (tot ⊖ u.cost) u))) (Refused 12)
+          of_cost true = rw big (arrived_refused 12 (λ z. omega arith) old_is)
+          of_cost false = rw big (arrived_refused 12 (λ z. omega arith) old_is)
 
   -- ---- with room made
 
-  module _ (passes : isCutOff (meetsAt cutoff a.total cell) ≡ false) (small : tame a.total ≡ true) (tk₁ rs₁ : List ℕ) (ls₁ : List ℤ) (gs₁ : List Float) (long : length tk₁ ≡ length m.tokens) (room : Room (store rs₁ ls₁ gs₁) g.cap) where
+  module _ (passes : is_cut_off (meets_at cutoff a.total cell) ≡ false) (small : tame a.total ≡ true) (tk₁ rs₁ : List ℕ) (ls₁ : List ℤ) (gs₁ : List Float) (long : length tk₁ ≡ length m.tokens) (room : Room (store rs₁ ls₁ gs₁) g.cap) where
     abbrev m₁ : Lent
     m₁ = lent tk₁ m.sums rs₁ ls₁ gs₁
 
     abbrev x₁ : Made → Stored
-    x₁ v = withLink x v.x
+    x₁ v = with_link x v.x
 
     abbrev y₁ : Made → Going
     y₁ v = going v.used y.seq v.x
@@ -193,9 +193,9 @@ module _ (g : Setting) (m : Lent) (cutoff : Float) (y : Going) (x : Stored) (a :
       pub scene : Scene H P t arc w g (x₁ v) a (store_of m₁) v.used stood.rep.h
 
     -- from what the stores stand for
-    make-ready : (v : Made) (r : Rep g.side g.states m₁ v.used v.x t.path G.done w.table w.fresh) → v.used ≤ g.cap → ((q : ℕ) → requeuedAt tk₁ q ≡ requeuedAt m.tokens q)
-        → (Tight 2 g.cap r.h v.used (inHand H w t.path) ⊎ ((links (x₁ v) a ≡ false) × (g.keeps ≡ false))) → Ready v
-    make-ready v r f e d =
+    make_ready : (v : Made) (r : Rep g.side g.states m₁ v.used v.x t.path G.done w.table w.fresh) → v.used ≤ g.cap → ((q : ℕ) → requeued_at tk₁ q ≡ requeued_at m.tokens q)
+        → (Tight 2 g.cap r.h v.used (in_hand_lem H w t.path) ⊎ ((links (x₁ v) a ≡ false) × (g.keeps ≡ false))) → Ready v
+    make_ready v r f e d =
         let z = G.stood in
         let c = G.pass in
         record {
@@ -217,20 +217,20 @@ module _ (g : Setting) (m : Lent) (cutoff : Float) (y : Going) (x : Stored) (a :
             stands = r.stands;
             hand = r.hand;
             newest = r.newest;
-            known = live-is (Known r.h v.used) (rep-known c.side r);
+            known = live_is (Known r.h v.used) (rep_known c.side r);
             meter = d;
           };
         }
 
-    pub ready : (v : Made) → RoomIs (store_of m) (store rs₁ ls₁ gs₁) m.tokens tk₁ g y.used (withLink x y.link) a v → Ready v
-    ready v (notWanted e s k) =
+    pub ready : (v : Made) → RoomIs (store_of m) (store rs₁ ls₁ gs₁) m.tokens tk₁ g y.used (with_link x y.link) a v → Ready v
+    ready v (not_wanted e s k) =
         let d : m₁ ≡ m = λ i. lent (k i) m.sums (s i).records (s i).labels (s i).gaps in
-        make-ready v (rep-as m m₁ d G.stood.rep) G.stood.fits (λ q. ap (λ (l : List ℕ). requeuedAt l q) k) (inr (or-neither (links (withLink x y.link) a) g.keeps e))
-    ready v (roomMade R) =
+        make_ready v (rep_as m m₁ d G.stood.rep) G.stood.fits (λ q. ap (λ (l : List ℕ). requeued_at l q) k) (inr (or_neither (links (with_link x y.link) a) g.keeps e))
+    ready v (room_made R) =
         let r = G.stood.rep in
         let c = R.carried in
-        make-ready v (rep-moved G.pass.side r c) (let a = c.few in let b = G.stood.fits in omega arith) c.others.requeued
-        (inl (live-is (Tight 2 g.cap (λ j. r.h (c.old j)) v.used) (R.tight r.h (t.path ∷ (paths w.table ++ paths G.done)) r.stands (rep-covers G.pass.side r))))
+        make_ready v (rep_moved G.pass.side r c) (let a = c.few in let b = G.stood.fits in omega arith) c.others.requeued
+        (inl (live_is (Tight 2 g.cap (λ j. r.h (c.old j)) v.used) (R.tight r.h (t.path ∷ (paths w.table ++ paths G.done)) r.stands (rep_covers G.pass.side r))))
 
     -- ---- and the arc settled
 
@@ -258,26 +258,26 @@ module _ (g : Setting) (m : Lent) (cutoff : Float) (y : Going) (x : Stored) (a :
       shown = subst (λ (s : ℕ). Shows G.stood.rep.h y.used cell (slice_index_or w.table s none)) G.arrival.target (G.stood.rep.progress.place a.target G.target)
 
       -- a state that has no token yet leaves a seq for it
-      seq-left : place_of w arc ≡ none → suc w.seq < 2 ^ 32
-      seq-left e =
+      seq_left : place_of w arc ≡ none → suc w.seq < 2 ^ 32
+      seq_left e =
           let l : arc.target < length w.table = let z = R.stood.rep.progress.size in let k = G.target in let d = G.arrival.target in omega arith in
-          omega (arith, vacant-fill w.table arc.target t l e, G.stood.seqs)
+          omega (arith, vacant_fill w.table arc.target t l e, G.stood.seqs)
 
-      settled : (r : Settled) → SettledIs (store_of m₁) (store_of m₂) g (counts v.used y.seq) (x₁ v) a (cell_at tk₁ m.sums (place_in g.side a.target)) (meetsAt cutoff a.total cell) r
-          → SettleEnds h v.used (store_of m₁) (store_of m₂) g.cap w.fresh w.seq (comesOf G) r
+      settled : (r : Settled) → SettledIs (store_of m₁) (store_of m₂) g (counts v.used y.seq) (x₁ v) a (cell_at tk₁ m.sums (place_in g.side a.target)) (meets_at cutoff a.total cell) r
+          → SettleEnds h v.used (store_of m₁) (store_of m₂) g.cap w.fresh w.seq (comes_of G) r
       settled r f =
           let c₁ = cell_at tk₁ m.sums (place_in g.side a.target) in
-          let e : cutoff ≼ a.total ≡ false = sym (cut-test cutoff a.total cell) ∙ passes in
+          let e : cutoff ≼ a.total ≡ false = sym (cut_test cutoff a.total cell) ∙ passes in
           let k = counts v.used y.seq in
-          let same = meets-same G.stood.rep.h h y.used v.used cutoff a.total cell c₁ (place_of w arc) shown shows in
-          subst (λ (z : Met). SettleEnds h v.used (store_of m₁) (store_of m₂) g.cap w.fresh w.seq (settle H P t arc w z) r) (λ i. meets (sym G.cutoff-is i) (G.arrival.total i) (place_of w arc))
-          (settled_is H P t arc w g k (x₁ v) a (store_of m₁) h R.scene (ap tame (sym G.arrival.total) ∙ small) R.stood.seq (store_of m₂) c₁ cutoff a.total G.arrival.total e seq-left (place_of w arc) refl shows r
+          let same = meets_same G.stood.rep.h h y.used v.used cutoff a.total cell c₁ (place_of w arc) shown shows in
+          subst (λ (z : Met). SettleEnds h v.used (store_of m₁) (store_of m₂) g.cap w.fresh w.seq (settle H P t arc w z) r) (λ i. meets (sym G.cutoff_is i) (G.arrival.total i) (place_of w arc))
+          (settled_is H P t arc w g k (x₁ v) a (store_of m₁) h R.scene (ap tame (sym G.arrival.total) ∙ small) R.stood.seq (store_of m₂) c₁ cutoff a.total G.arrival.total e seq_left (place_of w arc) refl shows r
           (subst (λ z. SettledIs (store_of m₁) (store_of m₂) g k (x₁ v) a c₁ z r) same f))
 
       -- ---- the stores after it
 
-      grown-old : (h' : ℕ → History) (used' : ℕ) → used' ≤ g.cap → Grown h v.used h' used' → Stands (store_of m₂) used' h' → Old g.side g.states g.cap m₂ G.done
-      grown-old h' used' fits gr st = record { h = h'; used = used'; fits = fits; stands = st; finished = shown-grown gr R.stood.rep.finished }
+      grown_old : (h' : ℕ → History) (used' : ℕ) → used' ≤ g.cap → Grown h v.used h' used' → Stands (store_of m₂) used' h' → Old g.side g.states g.cap m₂ G.done
+      grown_old h' used' fits gr st = record { h = h'; used = used'; fits = fits; stands = st; finished = shown_grown gr R.stood.rep.finished }
 
       -- the same work, two numbers later
       later : m₂ ≡ m₁ → Stood g m₂ (y₁ v) G.done t.path (passed P tot w)
@@ -307,9 +307,9 @@ module _ (g : Setting) (m : Lent) (cutoff : Float) (y : Going) (x : Stored) (a :
             rep = record {
               h = T.h';
               stands = T.stands;
-              finished = shown-aside g.side a.target G.pass.side p (shown-grown T.grown s.rep.finished);
-              progress = subst (λ (i : ℕ). Shown T.h' k.used tk₂ sm₂ g.side g.states (slice_set w.table i (some u))) G.arrival.target (shown-put G.target p T.token (shown-grown T.grown s.rep.progress));
-              hand = is-grown T.grown s.rep.hand;
+              finished = shown_aside g.side a.target G.pass.side p (shown_grown T.grown s.rep.finished);
+              progress = subst (λ (i : ℕ). Shown T.h' k.used tk₂ sm₂ g.side g.states (slice_set w.table i (some u))) G.arrival.target (shown_put G.target p T.token (shown_grown T.grown s.rep.progress));
+              hand = is_grown T.grown s.rep.hand;
               newest = T.newest;
             };
             seq = e;
@@ -320,49 +320,49 @@ module _ (g : Setting) (m : Lent) (cutoff : Float) (y : Going) (x : Stored) (a :
       inside : arc.target < length w.table
       inside = let z = R.stood.rep.progress.size in let k = G.target in let d = G.arrival.target in omega arith
 
-      finish-by : (o : Outcome Change) → comesOf G ≡ o → (r : Settled) → SettleEnds h v.used (store_of m₁) (store_of m₂) g.cap w.fresh w.seq o r → FinishedBy v rs₂ ls₂ gs₂ r
-      finish-by o e r (endsRefused n ne z) = rw e (arrivedRefused n ne (grown-old z.h' z.used' z.fits z.grown z.stands))
-      finish-by o e r (endsStays q) = rw e (arrivedStays (later (λ i. lent tk₁ m.sums (q i).records (q i).labels (q i).gaps)))
-      finish-by o e r (endsWins {u} {y = z} {k} T) =
-          λ tk₂ sm₂ lt ls p. rw e (arrivedWins (put_on z k u k.seq T refl (seqs-won H P t arc w w.cutoff tot inside R.stood.seqs u k.seq e) tk₂ sm₂ lt ls p))
-      finish-by o e r (endsJoins {u} {y = z} {k} T q) =
-          λ tk₂ sm₂ lt ls p. rw e (arrivedJoins (put_on z k u w.seq T q (seqs-joined H P t arc w w.cutoff tot inside R.stood.seqs u e) tk₂ sm₂ lt ls p))
+      finish_by : (o : Outcome Change) → comes_of G ≡ o → (r : Settled) → SettleEnds h v.used (store_of m₁) (store_of m₂) g.cap w.fresh w.seq o r → FinishedBy v rs₂ ls₂ gs₂ r
+      finish_by o e r (ends_refused n ne z) = rw e (arrived_refused n ne (grown_old z.h' z.used' z.fits z.grown z.stands))
+      finish_by o e r (ends_stays q) = rw e (arrived_stays (later (λ i. lent tk₁ m.sums (q i).records (q i).labels (q i).gaps)))
+      finish_by o e r (ends_wins {u} {y = z} {k} T) =
+          λ tk₂ sm₂ lt ls p. rw e (arrived_wins (put_on z k u k.seq T refl (seqs_won H P t arc w w.cutoff tot inside R.stood.seqs u k.seq e) tk₂ sm₂ lt ls p))
+      finish_by o e r (ends_joins {u} {y = z} {k} T q) =
+          λ tk₂ sm₂ lt ls p. rw e (arrived_joins (put_on z k u w.seq T q (seqs_joined H P t arc w w.cutoff tot inside R.stood.seqs u e) tk₂ sm₂ lt ls p))
 
-      pub finished : (r : Settled) → SettledIs (store_of m₁) (store_of m₂) g (counts v.used y.seq) (x₁ v) a (cell_at tk₁ m.sums (place_in g.side a.target)) (meetsAt cutoff a.total cell) r → FinishedBy v rs₂ ls₂ gs₂ r
-      finished r f = finish-by (comesOf G) refl r (settled r f)
+      pub finished : (r : Settled) → SettledIs (store_of m₁) (store_of m₂) g (counts v.used y.seq) (x₁ v) a (cell_at tk₁ m.sums (place_in g.side a.target)) (meets_at cutoff a.total cell) r → FinishedBy v rs₂ ls₂ gs₂ r
+      finished r f = finish_by (comes_of G) refl r (settled r f)
 
       -- what safety asks before the arc is settled
-      held_low : (o : Option Token) (c : Cell) → Shows h v.used c o → (tokenOf c).link ≤ v.used
-      held_low none c (showsNone e) = omega arith
-      held_low (some u) c (showsToken z e i) = let d = ap (λ (b : Cell). b.held) e in let l = i.link.low in omega arith
+      held_low : (o : Option Token) (c : Cell) → Shows h v.used c o → (token_of c).link ≤ v.used
+      held_low none c (shows_none e) = omega arith
+      held_low (some u) c (shows_token z e i) = let d = ap (λ (b : Cell). b.held) e in let l = i.link.low in omega arith
 
-      pub settle-asks : SettleAsks (store_of m₁) g (counts v.used y.seq) (x₁ v) (tokenOf (cell_at tk₁ m.sums (place_in g.side a.target)))
-      settle-asks =
+      pub settle_asks : SettleAsks (store_of m₁) g (counts v.used y.seq) (x₁ v) (token_of (cell_at tk₁ m.sums (place_in g.side a.target)))
+      settle_asks =
           record {
             h = h;
             stands = R.stood.rep.stands;
             room = room;
             fits = R.stood.fits;
             small = G.pass.small;
-            source-low = R.stood.rep.hand.low;
+            source_low = R.stood.rep.hand.low;
             held_low = held_low (place_of w arc) (cell_at tk₁ m.sums (place_in g.side a.target)) shows;
           }
 
 -- ---- all of it
 
-module _ (g : Setting) (m : Lent) (cutoff : Float) (y : Going) (x : Stored) (a : Arrival) (G : Given g m cutoff y x a) (passes : isCutOff (meetsAt cutoff a.total (cell_at m.tokens m.sums (place_in g.side a.target))) ≡ false)
+module _ (g : Setting) (m : Lent) (cutoff : Float) (y : Going) (x : Stored) (a : Arrival) (G : Given g m cutoff y x a) (passes : is_cut_off (meets_at cutoff a.total (cell_at m.tokens m.sums (place_in g.side a.target))) ≡ false)
     (small : tame a.total ≡ true) (tk₁ rs₁ : List ℕ) (ls₁ : List ℤ) (gs₁ : List Float) (lt : length tk₁ ≡ length m.tokens) (lr : length rs₁ ≡ length m.records) (ll : length ls₁ ≡ length m.labels) (lg : length gs₁ ≡ length m.gaps) (v : Made)
-    (found : RoomIs (store_of m) (store rs₁ ls₁ gs₁) m.tokens tk₁ g y.used (withLink x y.link) a v) where
-  abbrev room-then : Room (store rs₁ ls₁ gs₁) g.cap
-  room-then = room_as m.records rs₁ m.labels ls₁ m.gaps gs₁ lr ll lg G.stood.places.store
+    (found : RoomIs (store_of m) (store rs₁ ls₁ gs₁) m.tokens tk₁ g y.used (with_link x y.link) a v) where
+  abbrev room_then : Room (store rs₁ ls₁ gs₁) g.cap
+  room_then = room_as m.records rs₁ m.labels ls₁ m.gaps gs₁ lr ll lg G.stood.places.store
 
-  abbrev then_ready : Ready g m cutoff y x a G passes small tk₁ rs₁ ls₁ gs₁ lt room-then v
-  then_ready = ready g m cutoff y x a G passes small tk₁ rs₁ ls₁ gs₁ lt room-then v found
+  abbrev then_ready : Ready g m cutoff y x a G passes small tk₁ rs₁ ls₁ gs₁ lt room_then v
+  then_ready = ready g m cutoff y x a G passes small tk₁ rs₁ ls₁ gs₁ lt room_then v found
 
-  pub then-asks : SettleAsks (store rs₁ ls₁ gs₁) g (counts v.used y.seq) (withLink x v.x) (tokenOf (cell_at tk₁ m.sums (place_in g.side a.target)))
-  then-asks = settle-asks g m cutoff y x a G passes small tk₁ rs₁ ls₁ gs₁ lt room-then v then_ready rs₁ ls₁ gs₁ room-then
+  pub then_asks : SettleAsks (store rs₁ ls₁ gs₁) g (counts v.used y.seq) (with_link x v.x) (token_of (cell_at tk₁ m.sums (place_in g.side a.target)))
+  then_asks = settle_asks g m cutoff y x a G passes small tk₁ rs₁ ls₁ gs₁ lt room_then v then_ready rs₁ ls₁ gs₁ room_then
 
   pub arrived : (rs₂ : List ℕ) (ls₂ : List ℤ) (gs₂ : List Float) → length rs₂ ≡ length rs₁ → length ls₂ ≡ length ls₁ → length gs₂ ≡ length gs₁ → (r : Settled)
-      → SettledIs (store rs₁ ls₁ gs₁) (store rs₂ ls₂ gs₂) g (counts v.used y.seq) (withLink x v.x) a (cell_at tk₁ m.sums (place_in g.side a.target)) (meetsAt cutoff a.total (cell_at m.tokens m.sums (place_in g.side a.target))) r
-      → FinishedBy g m cutoff y x a G passes small tk₁ rs₁ ls₁ gs₁ lt room-then v rs₂ ls₂ gs₂ r
-  arrived rs₂ ls₂ gs₂ kr kl kg r f = finished g m cutoff y x a G passes small tk₁ rs₁ ls₁ gs₁ lt room-then v then_ready rs₂ ls₂ gs₂ (room_as rs₁ rs₂ ls₁ ls₂ gs₁ gs₂ kr kl kg room-then) r f
+      → SettledIs (store rs₁ ls₁ gs₁) (store rs₂ ls₂ gs₂) g (counts v.used y.seq) (with_link x v.x) a (cell_at tk₁ m.sums (place_in g.side a.target)) (meets_at cutoff a.total (cell_at m.tokens m.sums (place_in g.side a.target))) r
+      → FinishedBy g m cutoff y x a G passes small tk₁ rs₁ ls₁ gs₁ lt room_then v rs₂ ls₂ gs₂ r
+  arrived rs₂ ls₂ gs₂ kr kl kg r f = finished g m cutoff y x a G passes small tk₁ rs₁ ls₁ gs₁ lt room_then v then_ready rs₂ ls₂ gs₂ (room_as rs₁ rs₂ ls₁ ls₂ gs₁ gs₂ kr kl kg room_then) r f

@@ -7,7 +7,7 @@ use Rattle.arrivals.specs.declared.Arrival.{Arrival}
 use Rattle.arrivals.specs.declared.Setting.{Setting}
 use Rattle.arrivals.specs.declared.PutOn.{PutOn}
 use Rattle.arrivals.specs.declared.PutOn.TheVariants.{Refused, On}
-use Rattle.arrivals.specs.Arrival.{startsOf, links}
+use Rattle.arrivals.specs.Arrival.{starts_of, links}
 
 -- the records in use, and their places
 pub record RoomFor (cap used : ℕ) (rs : List ℕ) (ls : List ℤ) : Type 0 where
@@ -17,7 +17,7 @@ pub record RoomFor (cap used : ℕ) (rs : List ℕ) (ls : List ℤ) : Type 0 whe
   pub labels : cap * 2 ≤ length ls
 
 pub data PutOnIs (rs rs' : List ℕ) (ls ls' : List ℤ) (g : Setting) (used : ℕ) (s : Stored) (a : Arrival) : PutOn → Type 0 where
-  sumRefused : tame a.graph ≡ false → rs' ≡ rs → ls' ≡ ls → PutOnIs rs rs' ls ls' g used s a (Refused 12)
-  recordRefused : tame a.graph ≡ true → links s a ≡ true → used ≡ g.cap → rs' ≡ rs → ls' ≡ ls → PutOnIs rs rs' ls ls' g used s a (Refused 13)
-  linkOnIt : {r : ℕ} → tame a.graph ≡ true → links s a ≡ true → used < g.cap → LinkPut rs rs' ls ls' used s.link g.frame a.word (startsOf s a) r → PutOnIs rs rs' ls ls' g used s a (On r r)
-  noLinkOnIt : tame a.graph ≡ true → links s a ≡ false → rs' ≡ rs → ls' ≡ ls → PutOnIs rs rs' ls ls' g used s a (On s.link used)
+  sum_refused : tame a.graph ≡ false → rs' ≡ rs → ls' ≡ ls → PutOnIs rs rs' ls ls' g used s a (Refused 12)
+  record_refused : tame a.graph ≡ true → links s a ≡ true → used ≡ g.cap → rs' ≡ rs → ls' ≡ ls → PutOnIs rs rs' ls ls' g used s a (Refused 13)
+  link_on_it : {r : ℕ} → tame a.graph ≡ true → links s a ≡ true → used < g.cap → LinkPut rs rs' ls ls' used s.link g.frame a.word (starts_of s a) r → PutOnIs rs rs' ls ls' g used s a (On r r)
+  no_link_on_it : tame a.graph ≡ true → links s a ≡ false → rs' ≡ rs → ls' ≡ ls → PutOnIs rs rs' ls ls' g used s a (On s.link used)

@@ -13,5 +13,5 @@ abbrev pub wants : Setting → Stored → Arrival → Bool
 wants g x a = links x a || g.keeps
 
 pub data RoomIs (s s' : Store) (tk tk' : List ℕ) (g : Setting) (used : ℕ) (x : Stored) (a : Arrival) : Made → Type 0 where
-  notWanted : wants g x a ≡ false → s' ≡ s → tk' ≡ tk → RoomIs s s' tk tk' g used x a (record { used = used; x = x.link })
-  roomMade : {r : Made} → RoomMade s s' tk tk' (g.states * 2) used r.used g.cap x.link r.x → RoomIs s s' tk tk' g used x a r
+  not_wanted : wants g x a ≡ false → s' ≡ s → tk' ≡ tk → RoomIs s s' tk tk' g used x a (record { used = used; x = x.link })
+  room_made : {r : Made} → RoomMade s s' tk tk' (g.states * 2) used r.used g.cap x.link r.x → RoomIs s s' tk tk' g used x a r

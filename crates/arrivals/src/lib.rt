@@ -1,15 +1,15 @@
 // One arriving arc: what it meets, and what comes of it. The same for both passes, which differ in the total, the phone and what follows.
 ghost use Rattle.std.specs.Prelude.{◌≡◌, ◌+◌, ◌*◌, ◌<◌, ◌≤◌, length};
-ghost use Rattle.tokens.specs.Layout.{place_in, cell_at, tokenOf};
+ghost use Rattle.tokens.specs.Layout.{place_in, cell_at, token_of};
 ghost use Rattle.compaction.specs.Carried.{Holds};
-ghost use Rattle.arrivals.specs.Arrival.{startsOf, links, meetsAt, isCutOff};
+ghost use Rattle.arrivals.specs.Arrival.{starts_of, links, meets_at, is_cut_off};
 ghost use Rattle.arrivals.specs.Room.{wants, RoomIs};
 ghost use Rattle.stores.specs.Rep.{lent};
 ghost use Rattle.arrivals.specs.Stood.{Given};
 ghost use Rattle.arrivals.specs.Arrives.{ArriveIs};
 ghost use Rattle.records.specs.Layout.{store};
 ghost use Rattle.arrivals.specs.PutOn.{RoomFor, PutOnIs};
-ghost use Rattle.arrivals.specs.Settled.{marginIn, withLink, newToken, SettleAsks, FillIs, BeatIs, LoseIs, SettledIs};
+ghost use Rattle.arrivals.specs.Settled.{margin_in, with_link, new_token, SettleAsks, FillIs, BeatIs, LoseIs, SettledIs};
 
 use compaction::Made;
 use joins::{Keeping, Margin};
@@ -47,7 +47,7 @@ pub enum Meets {
 
 pub fn meet(tokens: &[u32], sums: &[f32], side: u32, s: u32, cutoff: f32, total: f32) -> Meets
     requires { (side ≤ 1) × (s * 8 + 8 ≤ length tokens.now) × (s * 4 + 4 ≤ length sums.now) }
-    ensures { result ≡ meetsAt cutoff total (cell_at tokens.now sums.now (place_in side s)) }
+    ensures { result ≡ meets_at cutoff total (cell_at tokens.now sums.now (place_in side s)) }
 {
     if cutoff <= total {
         return Meets::CutOff;
@@ -65,7 +65,7 @@ pub fn meet(tokens: &[u32], sums: &[f32], side: u32, s: u32, cutoff: f32, total:
 
 // The phone that an arrival starts, 0 where it does not change.
 fn starts(source: Token, a: Arrival) -> u32
-    ensures { result ≡ startsOf source a }
+    ensures { result ≡ starts_of source a }
 {
     if a.phone == source.phone { 0 } else { a.phone }
 }
@@ -140,7 +140,7 @@ pub enum Settled {
 }
 
 fn with_link(t: Token, link: u32) -> Token
-    ensures { result ≡ withLink t link }
+    ensures { result ≡ with_link t link }
 {
     Token {
         cost: t.cost,
@@ -152,7 +152,7 @@ fn with_link(t: Token, link: u32) -> Token
 }
 
 fn margin_of(setting: Setting) -> Margin
-    ensures { result ≡ marginIn setting }
+    ensures { result ≡ margin_in setting }
 {
     if setting.keeps {
         Margin::Within(setting.margin)
@@ -163,7 +163,7 @@ fn margin_of(setting: Setting) -> Margin
 
 // The arriving token.
 fn new_token(a: Arrival, link: u32, seq: u32) -> Token
-    ensures { result ≡ newToken a link seq }
+    ensures { result ≡ new_token a link seq }
 {
     Token {
         cost: a.total,
@@ -303,7 +303,7 @@ fn settle(
     met: Meets,
 ) -> Settled
     requires side_bound { (setting.side ≤ 1) × (a.target * 8 + 8 ≤ length tokens.now) × (a.target * 4 + 4 ≤ length sums.now) }
-    requires settle_asks { SettleAsks (store records.old labels.old gaps.old) setting counts source (tokenOf (cell_at tokens.now sums.now (place_in setting.side a.target))) }
+    requires settle_asks { SettleAsks (store records.old labels.old gaps.old) setting counts source (token_of (cell_at tokens.now sums.now (place_in setting.side a.target))) }
     ensures { SettledIs (store records.old labels.old gaps.old) (store records.new labels.new gaps.new) setting counts source a (cell_at tokens.now sums.now (place_in setting.side a.target)) met result }
 {
     match met {
@@ -378,7 +378,7 @@ pub enum Arrived {
 }
 
 fn is_cut(met: Meets) -> bool
-    ensures { result ≡ isCutOff met }
+    ensures { result ≡ is_cut_off met }
 {
     match met {
         Meets::CutOff => true,

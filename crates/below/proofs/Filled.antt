@@ -11,26 +11,26 @@ use lib.Dec.{T}
 use lib.ListN.{length, get_or, set, take}
 use lib.Seq.{get_or-set_same, get_or-set_other, length-take-le, get_or-take}
 use borrow.Author.Tests.{eq-eqb, ne_eqb}
-use Rattle.lists.specs.Tests.{case, eq-or-not, never}
+use Rattle.lists.specs.Tests.{case, eq_or_not, never}
 use Rattle.lists.specs.Lists.{◌∈◌}
-use Rattle.lists.specs.Members.{at-member, member-at, map-from, map-to}
+use Rattle.lists.specs.Members.{at_member, member_at, map_from, map_to}
 use Rattle.real32.specs.Small.{huge}
 use Rattle.model.specs.Basics.{◌≺◌, ◌≼◌}
 use Rattle.records.specs.History.{History}
-use Rattle.records.specs.Layout.{store, costAt}
+use Rattle.records.specs.Layout.{store, cost_at}
 use Rattle.records.specs.Stands.{Stands}
-use Rattle.histories.specs.Reading.{joinTag}
+use Rattle.histories.specs.Reading.{join_tag}
 use Rattle.traceback.specs.Chain.{Walkable}
 use Rattle.entries.specs.declared.Way.{Way}
 use Rattle.entries.specs.Entries.{entry_at, Room}
 use Rattle.entries.specs.Ways.{WayAsks, FillAsks}
-use Rattle.below.specs.Stored.{first_at, countAt, isWanted}
-use Rattle.below.specs.Filling.{wasFull, BelowIs}
-use Rattle.below.specs.Totals.{IsVisited, visited-root, visited-own, visited-kept, visited-only}
-use Rattle.below.specs.Progress.{Progress, progress-none, progress-past, new-short, progress-put, progress-full, progress-all}
-use Rattle.below.specs.Short.{Short, short-marks, short-put}
-use Rattle.below.specs.Marks.{OwnReach, KeptReach, Cleared, MarksPut, link_of, headLinks, HeadTo, HeadsWanted, Wanted, Reach, fromRoot, throughWay, BelowWanted}
-use Rattle.below.specs.Putting.{ListPut, OneAsks, ListFilled, OneIs, notWanted, noPlace, wasListed, ListsAsk, Fair, ListsAre}
+use Rattle.below.specs.Stored.{first_at, count_at, is_wanted}
+use Rattle.below.specs.Filling.{was_full, BelowIs}
+use Rattle.below.specs.Totals.{IsVisited, visited_root, visited_own, visited_kept, visited_only}
+use Rattle.below.specs.Progress.{Progress, progress_none, progress_past, new_short, progress_put, progress_full, progress_all}
+use Rattle.below.specs.Short.{Short, short_marks, short_put}
+use Rattle.below.specs.Marks.{OwnReach, KeptReach, Cleared, MarksPut, link_of, head_links, HeadTo, HeadsWanted, Wanted, Reach, from_root, through_way, BelowWanted}
+use Rattle.below.specs.Putting.{ListPut, OneAsks, ListFilled, OneIs, not_wanted, no_place, was_listed, ListsAsk, Fair, ListsAre}
 
 -- ---- a list's two numbers
 
@@ -47,37 +47,37 @@ list_put ls k f n room same =
     firsts zero d = refl
     firsts (suc j) d = get_or-set_other (set ls (k * 2) f) (k * 2 + 1) (j * 2) n 0 (λ u. omega arith) ∙ get_or-set_other ls (k * 2) (j * 2) f 0 (λ u. d (omega arith))
 
-    counts : (j : ℕ) → (j ≡ suc k → ⊥) → countAt (set (set ls (k * 2) f) (k * 2 + 1) n) j ≡ countAt ls j
+    counts : (j : ℕ) → (j ≡ suc k → ⊥) → count_at (set (set ls (k * 2) f) (k * 2 + 1) n) j ≡ count_at ls j
     counts zero d = refl
     counts (suc j) d = get_or-set_other (set ls (k * 2) f) (k * 2 + 1) (j * 2 + 1) n 0 (λ u. d (omega arith)) ∙ get_or-set_other ls (k * 2) (j * 2 + 1) f 0 (λ u. omega arith)
 
-pub list-put-at : (ls : List ℕ) (r f n : ℕ) → 0 < r → r * 2 ≤ length ls → length (set ls ((r - 1) * 2) f) ≡ length ls → ListPut ls (set (set ls ((r - 1) * 2) f) ((r - 1) * 2 + 1) n) r f n
-list-put-at ls r f n a room same = let e : suc (r - 1) ≡ r = omega arith in subst (λ (k : ℕ). ListPut ls (set (set ls ((r - 1) * 2) f) ((r - 1) * 2 + 1) n) k f n) e (list_put ls (r - 1) f n (omega arith) same)
+pub list_put_at : (ls : List ℕ) (r f n : ℕ) → 0 < r → r * 2 ≤ length ls → length (set ls ((r - 1) * 2) f) ≡ length ls → ListPut ls (set (set ls ((r - 1) * 2) f) ((r - 1) * 2 + 1) n) r f n
+list_put_at ls r f n a room same = let e : suc (r - 1) ≡ r = omega arith in subst (λ (k : ℕ). ListPut ls (set (set ls ((r - 1) * 2) f) ((r - 1) * 2 + 1) n) k f n) e (list_put ls (r - 1) f n (omega arith) same)
 
 -- ---- wanted
 
 module _ (ls : List ℕ) (j : ℕ) where
-  wanted-yes : 0 < countAt ls j → isWanted ls j ≡ true
-  wanted-yes l = ap not (ne_eqb (countAt ls j) 0 (λ e. omega arith))
+  wanted_yes : 0 < count_at ls j → is_wanted ls j ≡ true
+  wanted_yes l = ap not (ne_eqb (count_at ls j) 0 (λ e. omega arith))
 
-  wanted-no : countAt ls j ≡ 0 → isWanted ls j ≡ false
-  wanted-no e = ap not (eq-eqb (countAt ls j) 0 e)
+  wanted_no : count_at ls j ≡ 0 → is_wanted ls j ≡ false
+  wanted_no e = ap not (eq-eqb (count_at ls j) 0 e)
 
-  wanted-pos : isWanted ls j ≡ true → 0 < countAt ls j
-  wanted-pos e = case (eq-or-not (countAt ls j) 0) (λ q. never (sym (wanted-no q) ∙ e)) (λ d. omega (arith, d))
+  wanted_pos : is_wanted ls j ≡ true → 0 < count_at ls j
+  wanted_pos e = case (eq_or_not (count_at ls j) 0) (λ q. never (sym (wanted_no q) ∙ e)) (λ d. omega (arith, d))
 
 -- ---- what filling one list asks
 
 -- a way that the margin cuts has no paths
-cond-low : (b : Bool) (n m : ℕ) → m ≡ cond b n 0 → m ≤ n
-cond-low true n m e = omega arith
-cond-low false n m e = omega arith
+cond_low : (b : Bool) (n m : ℕ) → m ≡ cond b n 0 → m ≤ n
+cond_low true n m e = omega arith
+cond_low false n m e = omega arith
 
 module _ {rs : List ℕ} {ls : List ℤ} {gs : List Float} {used : ℕ} {lists hs ns : List ℕ} {xs : List Float} {places r free : ℕ} (A : OneAsks rs ls gs used lists hs ns xs places r free) where
-  way-asks : (w : Way) (e : ℕ) → e ≤ used → w.first ≡ first_at lists e → w.count ≤ countAt lists e → w.len ≤ used → WayAsks hs ns xs w
-  way-asks w e u f c l =
+  way_asks : (w : Way) (e : ℕ) → e ≤ used → w.first ≡ first_at lists e → w.count ≤ count_at lists e → w.len ≤ used → WayAsks hs ns xs w
+  way_asks w e u f c l =
       let b = A.short.before e u in
-      let p = A.free-low in
+      let p = A.free_low in
       let q = A.few in
       let s = A.walkable.few in
       record {
@@ -90,8 +90,8 @@ module _ {rs : List ℕ} {ls : List ℤ} {gs : List Float} {used : ℕ} {lists h
         lens = λ i v. let z = subst (λ (k : ℕ). (entry_at hs ns xs (k + i)).len ≤ e) (sym f) (A.short.short e u i (omega arith)) in omega arith;
       }
 
-  pub fill-asks : {margin : Float} (own kept : Way) → OwnReach rs ls used lists r own → KeptReach rs ls gs used lists r margin kept → FillAsks hs ns xs own kept free places
-  fill-asks {margin} own kept W K =
+  pub fill_asks : {margin : Float} (own kept : Way) → OwnReach rs ls used lists r own → KeptReach rs ls gs used lists r margin kept → FillAsks hs ns xs own kept free places
+  fill_asks {margin} own kept W K =
       let l = A.low in
       let a = W.low in
       let b = K.low in
@@ -99,18 +99,18 @@ module _ {rs : List ℕ} {ls : List ℤ} {gs : List Float} {used : ℕ} {lists h
       let f = W.way.first in
       let g = K.way.first in
       let c = W.way.count in
-      let k = cond-low (costAt gs (r - 1) ≼ margin) (countAt lists K.way.end) kept.count K.way.count in
+      let k = cond_low (cost_at gs (r - 1) ≼ margin) (count_at lists K.way.end) kept.count K.way.count in
       let x = A.short.before W.way.end (omega arith) in
       let y = A.short.before K.way.end (omega arith) in
       record {
         room = A.room;
         few = A.few;
-        begins = A.free-begins;
-        free = A.free-low;
-        own-way = way-asks own W.way.end (omega arith) f (omega arith) (omega arith);
-        kept-way = way-asks kept K.way.end (omega arith) g k (omega arith);
-        own-before = omega arith;
-        kept-before = omega arith;
+        begins = A.free_begins;
+        free = A.free_low;
+        own_way = way_asks own W.way.end (omega arith) f (omega arith) (omega arith);
+        kept_way = way_asks kept K.way.end (omega arith) g k (omega arith);
+        own_before = omega arith;
+        kept_before = omega arith;
       }
 
 -- ---- all of them
@@ -120,8 +120,8 @@ pub record DoneTo (rs : List ℕ) (ls : List ℤ) (gs : List Float) (used : ℕ)
   pub begins : 0 < free
   pub low : free ≤ places + 1
   pub short : Short lists hs ns xs used free
-  pub counts : (j : ℕ) → r < j → countAt lists j ≡ countAt lists₀ j
-  pub is : (h : ℕ → History) (links : List ℕ) → Fair rs ls gs used margin cap lists₀ h links → Progress h used margin cap (isWanted lists₀) lists hs ns xs places r free
+  pub counts : (j : ℕ) → r < j → count_at lists j ≡ count_at lists₀ j
+  pub is : (h : ℕ → History) (links : List ℕ) → Fair rs ls gs used margin cap lists₀ h links → Progress h used margin cap (is_wanted lists₀) lists hs ns xs places r free
 
 module _ (rs : List ℕ) (ls : List ℤ) (gs : List Float) (used : ℕ) (margin : Float) (cap : ℕ) where
   pub done_none : (lists hs ns : List ℕ) (xs : List Float) (places : ℕ) → ListsAsk rs ls gs used margin cap lists hs ns xs places → DoneTo rs ls gs used margin cap lists lists hs ns xs places 0 1
@@ -129,95 +129,95 @@ module _ (rs : List ℕ) (ls : List ℤ) (gs : List Float) (used : ℕ) (margin 
       record {
         begins = omega arith;
         low = omega arith;
-        short = short-marks lists hs ns xs used A.firsts A.counts;
+        short = short_marks lists hs ns xs used A.firsts A.counts;
         counts = λ j l. refl;
-        is = λ h links F. progress-none h used margin cap (isWanted lists) lists hs ns xs places;
+        is = λ h links F. progress_none h used margin cap (is_wanted lists) lists hs ns xs places;
       }
 
   module _ (lists₀ lists hs ns : List ℕ) (xs : List Float) (places r free : ℕ) (D : DoneTo rs ls gs used margin cap lists₀ lists hs ns xs places r free) (few : suc r ≤ used) (h₀ : ℕ → History) (links₀ : List ℕ) (F₀ : Fair rs ls gs used margin cap lists₀ h₀ links₀) where
-    done-past : countAt lists (suc r) ≡ 0 → DoneTo rs ls gs used margin cap lists₀ lists hs ns xs places (suc r) free
-    done-past e =
+    done_past : count_at lists (suc r) ≡ 0 → DoneTo rs ls gs used margin cap lists₀ lists hs ns xs places (suc r) free
+    done_past e =
         record {
           begins = D.begins;
           low = D.low;
           short = D.short;
           counts = λ j l. D.counts j (omega arith);
-          is = λ h links F. progress-past (D.is h links F) (wanted-no lists₀ (suc r) (sym (D.counts (suc r) (omega arith)) ∙ e));
+          is = λ h links F. progress_past (D.is h links F) (wanted_no lists₀ (suc r) (sym (D.counts (suc r) (omega arith)) ∙ e));
         }
 
     module _ (hs' ns' : List ℕ) (xs' : List Float) (n : ℕ) (L : ListFilled rs ls gs used margin cap lists hs ns xs hs' ns' xs' places (suc r) free n) where
-      want : isWanted lists₀ (suc r) ≡ true
-      want = wanted-yes lists₀ (suc r) (let z = L.wanted in let y = D.counts (suc r) (omega arith) in omega arith)
+      want : is_wanted lists₀ (suc r) ≡ true
+      want = wanted_yes lists₀ (suc r) (let z = L.wanted in let y = D.counts (suc r) (omega arith) in omega arith)
 
       done_full : (lists' : List ℕ) → n ≡ 0 → ListsAre rs ls gs used margin cap lists₀ lists' hs' ns' xs' places 0
       done_full lists' e =
           record {
             is = λ h links F.
-                wasFull
-                (progress-full F.stands margin cap links F.links-low (isWanted lists₀) F.only F.all (D.is h links F) few want L.own-way.way L.kept-way.way F.small L.fill e);
+                was_full
+                (progress_full F.stands margin cap links F.links_low (is_wanted lists₀) F.only F.all (D.is h links F) few want L.own_way.way L.kept_way.way F.small L.fill e);
             short = λ d. absurd (d refl);
           }
 
-      short-new : (n ≡ 0 → ⊥) → (e : ℕ) → free ≤ e → e < n → (entry_at hs' ns' xs' e).len ≤ suc r
-      short-new nz = new-short F₀.stands margin cap links₀ F₀.links-low (isWanted lists₀) F₀.only F₀.all (D.is h₀ links₀ F₀) few want L.own-way.way L.kept-way.way F₀.small L.fill nz
+      short_new : (n ≡ 0 → ⊥) → (e : ℕ) → free ≤ e → e < n → (entry_at hs' ns' xs' e).len ≤ suc r
+      short_new nz = new_short F₀.stands margin cap links₀ F₀.links_low (is_wanted lists₀) F₀.only F₀.all (D.is h₀ links₀ F₀) few want L.own_way.way L.kept_way.way F₀.small L.fill nz
 
-      done-put : (lists' : List ℕ) → (n ≡ 0 → ⊥) → ListPut lists lists' (suc r) free (n - free) → DoneTo rs ls gs used margin cap lists₀ lists' hs' ns' xs' places (suc r) n
-      done-put lists' nz P =
+      done_put : (lists' : List ℕ) → (n ≡ 0 → ⊥) → ListPut lists lists' (suc r) free (n - free) → DoneTo rs ls gs used margin cap lists₀ lists' hs' ns' xs' places (suc r) n
+      done_put lists' nz P =
           record {
             begins = let z = L.fill.on nz in let b = D.begins in omega arith;
             low = L.fill.fits;
-            short = short-put D.short lists' hs' ns' xs' (suc r) n (L.fill.on nz) L.fill.before (short-new nz) P.firsts P.counts P.first P.count;
+            short = short_put D.short lists' hs' ns' xs' (suc r) n (L.fill.on nz) L.fill.before (short_new nz) P.firsts P.counts P.first P.count;
             counts = λ j l. P.counts j (λ e. omega arith) ∙ D.counts j (omega arith);
             is = λ h links F.
-                progress-put F.stands margin cap links F.links-low (isWanted lists₀) F.only F.all (D.is h links F) few want L.own-way.way L.kept-way.way F.small L.fill nz lists'
+                progress_put F.stands margin cap links F.links_low (is_wanted lists₀) F.only F.all (D.is h links F) few want L.own_way.way L.kept_way.way F.small L.fill nz lists'
                 (λ j u. P.firsts j (λ e. omega arith)) (λ j u. P.counts j (λ e. omega arith)) P.first P.count;
           }
 
     step : (lists' hs' ns' : List ℕ) (xs' : List Float) (n : ℕ) → OneIs rs ls gs used margin cap lists hs ns xs lists' hs' ns' xs' places (suc r) free n → (n ≡ 0 → ⊥) → DoneTo rs ls gs used margin cap lists₀ lists' hs' ns' xs' places (suc r) n
-    step lists' hs' ns' xs' n (notWanted e a b c d) nz =
+    step lists' hs' ns' xs' n (not_wanted e a b c d) nz =
         subst (λ (l : List ℕ). DoneTo rs ls gs used margin cap lists₀ l hs' ns' xs' places (suc r) free) (sym a)
         (subst (λ (l : List ℕ). DoneTo rs ls gs used margin cap lists₀ lists l ns' xs' places (suc r) free) (sym b)
         (subst (λ (l : List ℕ). DoneTo rs ls gs used margin cap lists₀ lists hs l xs' places (suc r) free) (sym c)
-        (subst (λ (l : List Float). DoneTo rs ls gs used margin cap lists₀ lists hs ns l places (suc r) free) (sym d) (done-past e))))
-    step lists' hs' ns' xs' n (noPlace L) nz = absurd (nz refl)
-    step lists' hs' ns' xs' n (wasListed m u L P) nz = done-put hs' ns' xs' m L lists' u P
+        (subst (λ (l : List Float). DoneTo rs ls gs used margin cap lists₀ lists hs ns l places (suc r) free) (sym d) (done_past e))))
+    step lists' hs' ns' xs' n (no_place L) nz = absurd (nz refl)
+    step lists' hs' ns' xs' n (was_listed m u L P) nz = done_put hs' ns' xs' m L lists' u P
 
     stop : (lists' hs' ns' : List ℕ) (xs' : List Float) (n : ℕ) → OneIs rs ls gs used margin cap lists hs ns xs lists' hs' ns' xs' places (suc r) free n → n ≡ 0 → ListsAre rs ls gs used margin cap lists₀ lists' hs' ns' xs' places 0
-    stop lists' hs' ns' xs' n (notWanted e a b c d) z = let y = D.begins in absurd (omega arith)
-    stop lists' hs' ns' xs' n (noPlace L) z = done_full hs' ns' xs' 0 L lists' refl
-    stop lists' hs' ns' xs' n (wasListed m u L P) z = absurd (u z)
+    stop lists' hs' ns' xs' n (not_wanted e a b c d) z = let y = D.begins in absurd (omega arith)
+    stop lists' hs' ns' xs' n (no_place L) z = done_full hs' ns' xs' 0 L lists' refl
+    stop lists' hs' ns' xs' n (was_listed m u L P) z = absurd (u z)
 
     pub done_next : (lists' hs' ns' : List ℕ) (xs' : List Float) (n s : ℕ) → s ≡ suc r → OneIs rs ls gs used margin cap lists hs ns xs lists' hs' ns' xs' places s free n → (n ≡ 0 → ⊥) → DoneTo rs ls gs used margin cap lists₀ lists' hs' ns' xs' places s n
     done_next lists' hs' ns' xs' n s q O nz =
         subst (λ (k : ℕ). DoneTo rs ls gs used margin cap lists₀ lists' hs' ns' xs' places k n) (sym q) (step lists' hs' ns' xs' n (subst (λ (k : ℕ). OneIs rs ls gs used margin cap lists hs ns xs lists' hs' ns' xs' places k free n) q O) nz)
 
-    pub done-stop : (lists' hs' ns' : List ℕ) (xs' : List Float) (n s : ℕ) → s ≡ suc r → OneIs rs ls gs used margin cap lists hs ns xs lists' hs' ns' xs' places s free n → n ≡ 0 → ListsAre rs ls gs used margin cap lists₀ lists' hs' ns' xs' places 0
-    done-stop lists' hs' ns' xs' n s q O z = stop lists' hs' ns' xs' n (subst (λ (k : ℕ). OneIs rs ls gs used margin cap lists hs ns xs lists' hs' ns' xs' places k free n) q O) z
+    pub done_stop : (lists' hs' ns' : List ℕ) (xs' : List Float) (n s : ℕ) → s ≡ suc r → OneIs rs ls gs used margin cap lists hs ns xs lists' hs' ns' xs' places s free n → n ≡ 0 → ListsAre rs ls gs used margin cap lists₀ lists' hs' ns' xs' places 0
+    done_stop lists' hs' ns' xs' n s q O z = stop lists' hs' ns' xs' n (subst (λ (k : ℕ). OneIs rs ls gs used margin cap lists hs ns xs lists' hs' ns' xs' places k free n) q O) z
 
   pub done_all : (lists₀ lists hs ns : List ℕ) (xs : List Float) (places r free : ℕ) → r ≡ used → DoneTo rs ls gs used margin cap lists₀ lists hs ns xs places r free → ListsAre rs ls gs used margin cap lists₀ lists hs ns xs places free
   done_all lists₀ lists hs ns xs places r free e D =
       record {
         is = λ h links F.
-            progress-all F.stands margin cap links F.links-low (isWanted lists₀) F.only F.all (subst (λ (k : ℕ). Progress h used margin cap (isWanted lists₀) lists hs ns xs places k free) e (D.is h links F));
+            progress_all F.stands margin cap links F.links_low (is_wanted lists₀) F.only F.all (subst (λ (k : ℕ). Progress h used margin cap (is_wanted lists₀) lists hs ns xs places k free) e (D.is h links F));
         short = λ d. D.short;
       }
 
 -- ---- from the marks to the lists
 
-cleared_at : (ls : List ℕ) (used : ℕ) → Cleared ls used → (j : ℕ) → 0 < j → j ≤ used → (first_at ls j ≡ 0) × (countAt ls j ≡ 0)
+cleared_at : (ls : List ℕ) (used : ℕ) → Cleared ls used → (j : ℕ) → 0 < j → j ≤ used → (first_at ls j ≡ 0) × (count_at ls j ≡ 0)
 cleared_at ls used c zero a u = absurd (omega arith)
 cleared_at ls used c (suc j) a u = (c.first j u, c.count j u)
 
 module _ (tk : List ℕ) (b : ℕ) (heads : List ℕ) (n : ℕ) (long : n ≤ length heads) where
-  link-of : (i : ℕ) → i < n → link_of tk b (get_or heads i 0) ∈ headLinks tk b heads n
-  link-of i l =
+  link_of_lem : (i : ℕ) → i < n → link_of tk b (get_or heads i 0) ∈ head_links tk b heads n
+  link_of_lem i l =
       let y = length-take-le n heads long in
-      subst (λ (s : ℕ). link_of tk b s ∈ headLinks tk b heads n) (get_or-take n heads i 0 l) (map-to (link_of tk b) (take n heads) (get_or (take n heads) i 0) (at-member (take n heads) i 0 (omega arith)))
+      subst (λ (s : ℕ). link_of tk b s ∈ head_links tk b heads n) (get_or-take n heads i 0 l) (map_to (link_of tk b) (take n heads) (get_or (take n heads) i 0) (at_member (take n heads) i 0 (omega arith)))
 
-  link-from : (l : ℕ) → l ∈ headLinks tk b heads n → (i : ℕ) × (i < n) × (l ≡ link_of tk b (get_or heads i 0))
-  link-from l m =
-      let (s, x, e) = map-from (link_of tk b) (take n heads) l m in
-      let (i, u, q) = member-at (take n heads) s 0 x in
+  link_from : (l : ℕ) → l ∈ head_links tk b heads n → (i : ℕ) × (i < n) × (l ≡ link_of tk b (get_or heads i 0))
+  link_from l m =
+      let (s, x, e) = map_from (link_of tk b) (take n heads) l m in
+      let (i, u, q) = member_at (take n heads) s 0 x in
       let y = length-take-le n heads long in
       (i, omega arith, e ∙ ap (link_of tk b) (sym q ∙ get_or-take n heads i 0 (omega arith)))
 
@@ -230,46 +230,46 @@ module _ {tk rs : List ℕ} {ls : List ℤ} {gs : List Float} {b used : ℕ} {he
     mb = B.is h ok
 
     -- no list is there yet
-    pub marks-first : (j : ℕ) → 0 < j → j ≤ used → first_at l₃ j ≡ 0
-    marks-first j a u = mb.first j ∙ mh.first j ∙ (cleared_at l₁ used C j a u).0
+    pub marks_first : (j : ℕ) → 0 < j → j ≤ used → first_at l₃ j ≡ 0
+    marks_first j a u = mb.first j ∙ mh.first j ∙ (cleared_at l₁ used C j a u).0
 
-    pub marks-few : (j : ℕ) → 0 < j → j ≤ used → countAt l₃ j ≤ 1
-    marks-few j a u =
+    pub marks_few : (j : ℕ) → 0 < j → j ≤ used → count_at l₃ j ≤ 1
+    marks_few j a u =
         let z = (cleared_at l₁ used C j a u).1 in
         case (mb.only j) (λ e. case (mh.only j) (λ f. omega arith) (λ f. let y = f.0 in omega arith)) (λ e. let y = e.0 in omega arith)
 
-    module _ (cap : ℕ) (low : (l : ℕ) → l ∈ headLinks tk b heads n → l ≤ used) where
-      root : (j : ℕ) → 0 < j → j ≤ used → 0 < countAt l₂ j → IsVisited margin cap h (headLinks tk b heads n) j
+    module _ (cap : ℕ) (low : (l : ℕ) → l ∈ head_links tk b heads n → l ≤ used) where
+      root : (j : ℕ) → 0 < j → j ≤ used → 0 < count_at l₂ j → IsVisited margin cap h (head_links tk b heads n) j
       root j a u w =
           let z = (cleared_at l₁ used C j a u).1 in
           case (mh.only j) (λ f. absurd (omega arith))
-          (λ f. let (i, v, x) = f.1 in visited-root ok margin cap (headLinks tk b heads n) low (link_of tk b (get_or heads i 0)) j (link-of tk b heads n long i v) a u x.1)
+          (λ f. let (i, v, x) = f.1 in visited_root ok margin cap (head_links tk b heads n) low (link_of tk b (get_or heads i 0)) j (link_of_lem tk b heads n long i v) a u x.1)
 
-      reached : (j : ℕ) → 0 < j → j ≤ used → Reach rs gs used margin h (Wanted l₂) j → IsVisited margin cap h (headLinks tk b heads n) j
-      reached j a u (fromRoot w) = root j a u w.1
-      reached j a u (throughWay r x y t (inl d)) = visited-own ok margin cap (headLinks tk b heads n) low r x y (reached r x y t) j a u d.1
-      reached j a u (throughWay r x y t (inr d)) = visited-kept ok margin cap (headLinks tk b heads n) low r x y (reached r x y t) d.0 j a u d.1.1
+      reached : (j : ℕ) → 0 < j → j ≤ used → Reach rs gs used margin h (Wanted l₂) j → IsVisited margin cap h (head_links tk b heads n) j
+      reached j a u (from_root w) = root j a u w.1
+      reached j a u (through_way r x y t (inl d)) = visited_own ok margin cap (head_links tk b heads n) low r x y (reached r x y t) j a u d.1
+      reached j a u (through_way r x y t (inr d)) = visited_kept ok margin cap (head_links tk b heads n) low r x y (reached r x y t) d.0 j a u d.1.1
 
-      wanted-only : (j : ℕ) → 0 < j → j ≤ used → isWanted l₃ j ≡ true → IsVisited margin cap h (headLinks tk b heads n) j
-      wanted-only j a u w = let z = wanted-pos l₃ j w in case (mb.only j) (λ e. root j a u (omega arith)) (λ e. reached j a u e.1)
+      wanted_only : (j : ℕ) → 0 < j → j ≤ used → is_wanted l₃ j ≡ true → IsVisited margin cap h (head_links tk b heads n) j
+      wanted_only j a u w = let z = wanted_pos l₃ j w in case (mb.only j) (λ e. root j a u (omega arith)) (λ e. reached j a u e.1)
 
-      wanted-all : (j : ℕ) → 0 < j → j ≤ used → IsVisited margin cap h (headLinks tk b heads n) j → isWanted l₃ j ≡ true
-      wanted-all j a u m =
-          wanted-yes l₃ j
+      wanted_all : (j : ℕ) → 0 < j → j ≤ used → IsVisited margin cap h (head_links tk b heads n) j → is_wanted l₃ j ≡ true
+      wanted_all j a u m =
+          wanted_yes l₃ j
           (mb.all j a
-          (visited-only ok margin cap (headLinks tk b heads n) low (Reach rs gs used margin h (Wanted l₂))
-          (λ l j x c v t. let (i, y, e) = link-from tk b heads n long l x in fromRoot (c, mh.all j c (i, y, (v, t ∙ ap (λ (k : ℕ). joinTag (h k)) e))))
-          (λ r c v q j d w t. throughWay r c v q (inl (w, t))) (λ r c v q k j d w t. throughWay r c v q (inr (k, (w, t)))) j a u m))
+          (visited_only ok margin cap (head_links tk b heads n) low (Reach rs gs used margin h (Wanted l₂))
+          (λ l j x c v t. let (i, y, e) = link_from tk b heads n long l x in from_root (c, mh.all j c (i, y, (v, t ∙ ap (λ (k : ℕ). join_tag (h k)) e))))
+          (λ r c v q j d w t. through_way r c v q (inl (w, t))) (λ r c v q k j d w t. through_way r c v q (inr (k, (w, t)))) j a u m))
 
-  module _ (cap : ℕ) (low : (l : ℕ) → l ∈ headLinks tk b heads n → l ≤ used) (small : T (margin ≺ huge)) where
-    fair : (h : ℕ → History) → Stands (store rs ls gs) used h → Fair rs ls gs used margin cap l₃ h (headLinks tk b heads n)
-    fair h ok = record { stands = ok; links-low = low; small = small; only = wanted-only h ok cap low; all = wanted-all h ok cap low }
+  module _ (cap : ℕ) (low : (l : ℕ) → l ∈ head_links tk b heads n → l ≤ used) (small : T (margin ≺ huge)) where
+    fair : (h : ℕ → History) → Stands (store rs ls gs) used h → Fair rs ls gs used margin cap l₃ h (head_links tk b heads n)
+    fair h ok = record { stands = ok; links_low = low; small = small; only = wanted_only h ok cap low; all = wanted_all h ok cap low }
 
-    pub below-is : {lists hs ns : List ℕ} {xs : List Float} {places r : ℕ} → ListsAre rs ls gs used margin cap l₃ lists hs ns xs places r → BelowIs rs ls gs used margin cap (headLinks tk b heads n) lists hs ns xs places r
-    below-is L = record { is = λ h ok. L.is h (headLinks tk b heads n) (fair h ok); short = L.short }
+    pub below_is : {lists hs ns : List ℕ} {xs : List Float} {places r : ℕ} → ListsAre rs ls gs used margin cap l₃ lists hs ns xs places r → BelowIs rs ls gs used margin cap (head_links tk b heads n) lists hs ns xs places r
+    below_is L = record { is = λ h ok. L.is h (head_links tk b heads n) (fair h ok); short = L.short }
 
     -- what filling the lists asks
-    pub lists-ask : (h : ℕ → History) → Stands (store rs ls gs) used h → Walkable rs ls used → used * 2 ≤ length gs → used * 2 ≤ length l₃ → {hs ns : List ℕ} {xs : List Float} {places : ℕ} → Room hs ns xs places → places < 2 ^ 31 - 2
+    pub lists_ask : (h : ℕ → History) → Stands (store rs ls gs) used h → Walkable rs ls used → used * 2 ≤ length gs → used * 2 ≤ length l₃ → {hs ns : List ℕ} {xs : List Float} {places : ℕ} → Room hs ns xs places → places < 2 ^ 31 - 2
         → ListsAsk rs ls gs used margin cap l₃ hs ns xs places
-    lists-ask h ok walk g l room few =
-        record { walkable = walk; gaps-long = g; lists-long = l; room = room; few = few; firsts = marks-first h ok; counts = marks-few h ok; h = h; links = headLinks tk b heads n; fair = fair h ok }
+    lists_ask h ok walk g l room few =
+        record { walkable = walk; gaps_long = g; lists_long = l; room = room; few = few; firsts = marks_first h ok; counts = marks_few h ok; h = h; links = head_links tk b heads n; fair = fair h ok }

@@ -8,37 +8,37 @@ use mathlib.Core.List.Memᴰ.{tail as there}
 use mathlib.Core.List.{List, [], ◌∷◌, ◌++◌, map}
 use Rattle.std.proofs.lemmas.Bool.{not-true}
 use Rattle.lists.specs.Tests.{case}
-use Rattle.lists.specs.Lists.{◌∈◌, keepIf}
-use Rattle.lists.specs.Members.{take-from, keep-from, keep-passes, sort-from, firsts-from, map-from}
+use Rattle.lists.specs.Lists.{◌∈◌, keep_if}
+use Rattle.lists.specs.Members.{take_from, keep_from, keep_passes, sort_from, firsts_from, map_from}
 use Rattle.model.specs.Basics.{◌≺◌, ◌≼◌, 0f}
-use Rattle.model.specs.Readings.{Below, at_start, onTop, byWay, sameKey, cheapest}
-use Rattle.records.specs.History.{Beside, History, noHistory, linkOn, joinOn}
-use Rattle.below.specs.Lists.{belowOf}
+use Rattle.model.specs.Readings.{Below, at_start, on_top, by_way, same_key, cheapest}
+use Rattle.records.specs.History.{Beside, History, no_history, link_on_lem, join_on}
+use Rattle.below.specs.Lists.{below_of}
 
 module _ (margin : Float) (cap : ℕ) (P : History → Below → Type 0) where
   pub record Downward : Type 0 where
-    pub start : P noHistory at_start
-    pub link : (n f : ℕ) (w s : ℤ) (t : History) (b : Below) → P t b → P (linkOn n f w s t) (onTop w b)
-    pub own : (n f : ℕ) (x : Beside) (k t : History) (b : Below) → (margin ≺ (byWay 0f 0f [] b).cost) ≡ false → P t b → P (joinOn n f x k t) (byWay 0f 0f [] b)
-    pub kept : (n f : ℕ) (x : Beside) (k t : History) (b : Below) → (x.cost ≼ margin) ≡ true → (margin ≺ (byWay x.cost x.graph (n ∷ []) (onTop x.word b)).cost) ≡ false → P k b
-        → P (joinOn n f x k t) (byWay x.cost x.graph (n ∷ []) (onTop x.word b))
+    pub start : P no_history at_start
+    pub link : (n f : ℕ) (w s : ℤ) (t : History) (b : Below) → P t b → P (link_on_lem n f w s t) (on_top w b)
+    pub own : (n f : ℕ) (x : Beside) (k t : History) (b : Below) → (margin ≺ (by_way 0f 0f [] b).cost) ≡ false → P t b → P (join_on n f x k t) (by_way 0f 0f [] b)
+    pub kept : (n f : ℕ) (x : Beside) (k t : History) (b : Below) → (x.cost ≼ margin) ≡ true → (margin ≺ (by_way x.cost x.graph (n ∷ []) (on_top x.word b)).cost) ≡ false → P k b
+        → P (join_on n f x k t) (by_way x.cost x.graph (n ∷ []) (on_top x.word b))
 
   -- what holds at the start and is handed on down every way holds of all that is listed
-  pub below_each : Downward → (x : History) (b : Below) → b ∈ belowOf margin cap x → P x b
-  unfolding belowOf cheapest
-  below_each d noHistory b (here e) = subst (P noHistory) (sym e) d.start
-  below_each d noHistory b (there m) = elim m [ ]
-  below_each d (linkOn n f w s t) b m = let (o, i, e) = map-from (onTop w) (belowOf margin cap t) b m in subst (P (linkOn n f w s t)) (sym e) (d.link n f w s t o (below_each d t o i))
-  below_each d (joinOn n f x k t) b m = case (Memᴰ.append_cases owns (keep-from fits (owns ++ kepts) b in_kept)) (λ i. by-own (below_each d t) i) (λ i. by-kept (x.cost ≼ margin) refl (below_each d k) i)
+  pub below_each : Downward → (x : History) (b : Below) → b ∈ below_of margin cap x → P x b
+  unfolding below_of cheapest
+  below_each d no_history b (here e) = subst (P no_history) (sym e) d.start
+  below_each d no_history b (there m) = elim m [ ]
+  below_each d (link_on_lem n f w s t) b m = let (o, i, e) = map_from (on_top w) (below_of margin cap t) b m in subst (P (link_on_lem n f w s t)) (sym e) (d.link n f w s t o (below_each d t o i))
+  below_each d (join_on n f x k t) b m = case (Memᴰ.append_cases owns (keep_from fits (owns ++ kepts) b in_kept)) (λ i. by_own (below_each d t) i) (λ i. by_kept (x.cost ≼ margin) refl (below_each d k) i)
     where
       owns : List Below
-      owns = map (byWay 0f 0f []) (belowOf margin cap t)
+      owns = map (by_way 0f 0f []) (below_of margin cap t)
 
       way : Below → Below
-      way = byWay x.cost x.graph (n ∷ [])
+      way = by_way x.cost x.graph (n ∷ [])
 
       taken : Bool → List Below
-      taken c = cond c (map way (map (onTop x.word) (belowOf margin cap k))) []
+      taken c = cond c (map way (map (on_top x.word) (below_of margin cap k))) []
 
       kepts : List Below
       kepts = taken (x.cost ≼ margin)
@@ -46,18 +46,18 @@ module _ (margin : Float) (cap : ℕ) (P : History → Below → Type 0) where
       fits : Below → Bool
       fits x = not (margin ≺ x.cost)
 
-      in_kept : b ∈ keepIf fits (owns ++ kepts)
-      in_kept = sort-from (λ (a b : Below). a.cost ≺ b.cost) (keepIf fits (owns ++ kepts)) b (firsts-from sameKey [] _ b (take-from cap _ b m))
+      in_kept : b ∈ keep_if fits (owns ++ kepts)
+      in_kept = sort_from (λ (a b : Below). a.cost ≺ b.cost) (keep_if fits (owns ++ kepts)) b (firsts_from same_key [] _ b (take_from cap _ b m))
 
       fit : (margin ≺ b.cost) ≡ false
-      fit = not-true (margin ≺ b.cost) (keep-passes fits (owns ++ kepts) b in_kept)
+      fit = not-true (margin ≺ b.cost) (keep_passes fits (owns ++ kepts) b in_kept)
 
-      by-own : ((o : Below) → o ∈ belowOf margin cap t → P t o) → b ∈ owns → P (joinOn n f x k t) b
-      by-own rec i = let (o, j, e) = map-from (byWay 0f 0f []) (belowOf margin cap t) b i in subst (P (joinOn n f x k t)) (sym e) (d.own n f x k t o (subst (λ (y : Below). (margin ≺ y.cost) ≡ false) e fit) (rec o j))
+      by_own : ((o : Below) → o ∈ below_of margin cap t → P t o) → b ∈ owns → P (join_on n f x k t) b
+      by_own rec i = let (o, j, e) = map_from (by_way 0f 0f []) (below_of margin cap t) b i in subst (P (join_on n f x k t)) (sym e) (d.own n f x k t o (subst (λ (y : Below). (margin ≺ y.cost) ≡ false) e fit) (rec o j))
 
-      by-kept : (c : Bool) → (x.cost ≼ margin) ≡ c → ((o : Below) → o ∈ belowOf margin cap k → P k o) → b ∈ taken c → P (joinOn n f x k t) b
-      by-kept true q rec i =
-          let (o, j, e) = map-from way (map (onTop x.word) (belowOf margin cap k)) b i in
-          let (v, u, g) = map-from (onTop x.word) (belowOf margin cap k) o j in
-          subst (P (joinOn n f x k t)) (sym e) (subst (λ (y : Below). P (joinOn n f x k t) (way y)) (sym g) (d.kept n f x k t v q (subst (λ (y : Below). (margin ≺ (way y).cost) ≡ false) g (subst (λ (y : Below). (margin ≺ y.cost) ≡ false) e fit)) (rec v u)))
-      by-kept false q rec i = elim i [ ]
+      by_kept : (c : Bool) → (x.cost ≼ margin) ≡ c → ((o : Below) → o ∈ below_of margin cap k → P k o) → b ∈ taken c → P (join_on n f x k t) b
+      by_kept true q rec i =
+          let (o, j, e) = map_from way (map (on_top x.word) (below_of margin cap k)) b i in
+          let (v, u, g) = map_from (on_top x.word) (below_of margin cap k) o j in
+          subst (P (join_on n f x k t)) (sym e) (subst (λ (y : Below). P (join_on n f x k t) (way y)) (sym g) (d.kept n f x k t v q (subst (λ (y : Below). (margin ≺ (way y).cost) ≡ false) g (subst (λ (y : Below). (margin ≺ y.cost) ≡ false) e fit)) (rec v u)))
+      by_kept false q rec i = elim i [ ]

@@ -7,31 +7,31 @@ use Rattle.model.specs.Readings.{Below}
 use Rattle.records.specs.History.{History, tag}
 use Rattle.records.specs.Layout.{store}
 use Rattle.records.specs.Stands.{Stands}
-use Rattle.histories.specs.Reading.{joinTag}
+use Rattle.histories.specs.Reading.{join_tag}
 use Rattle.traceback.specs.Chain.{Walkable}
 use Rattle.entries.specs.Entries.{Room}
-use Rattle.below.specs.Lists.{belowOf, visitedOf}
-use Rattle.below.specs.Stored.{Decoded, listAt}
+use Rattle.below.specs.Lists.{below_of, visited_of}
+use Rattle.below.specs.Stored.{Decoded, list_at}
 use Rattle.below.specs.Short.{Short}
 
 -- the joins that are visited below these histories
-abbrev pub visitedBelow : (margin : Float) → (cap : ℕ) → List History → List (ℕ × ℕ)
-visitedBelow margin cap [] = []
-visitedBelow margin cap (x ∷ xs) = visitedOf margin cap x ++ visitedBelow margin cap xs
+abbrev pub visited_below : (margin : Float) → (cap : ℕ) → List History → List (ℕ × ℕ)
+visited_below margin cap [] = []
+visited_below margin cap (x ∷ xs) = visited_of margin cap x ++ visited_below margin cap xs
 
 -- the entries of all their lists, each join's once
-abbrev pub entriesBelow : (margin : Float) → (cap : ℕ) → List History → ℕ
-entriesBelow margin cap xs = sum (map (λ (v : ℕ × ℕ). v.1) (firsts (λ (a b : ℕ × ℕ). eqb a.0 b.0) [] (visitedBelow margin cap xs)))
+abbrev pub entries_below : (margin : Float) → (cap : ℕ) → List History → ℕ
+entries_below margin cap xs = sum (map (λ (v : ℕ × ℕ). v.1) (firsts (λ (a b : ℕ × ℕ). eqb a.0 b.0) [] (visited_below margin cap xs)))
 
 -- a store that stands for some histories, a margin that is accepted, two numbers for each record, places for the entries, and records to begin from
 pub record BelowAsks (rs : List ℕ) (ls : List ℤ) (gs : List Float) (used : ℕ) (margin : Float) (links lists hs ns : List ℕ) (xs : List Float) (places : ℕ) : Type 0 where
   pub walkable : Walkable rs ls used
-  pub gaps-long : used * 2 ≤ length gs
+  pub gaps_long : used * 2 ≤ length gs
   pub h : ℕ → History
   pub stands : Stands (store rs ls gs) used h
   pub fair : T (margin ≺ huge)
-  pub links-low : (l : ℕ) → l ∈ links → l ≤ used
-  pub lists-long : used * 2 ≤ length lists
+  pub links_low : (l : ℕ) → l ∈ links → l ≤ used
+  pub lists_long : used * 2 ≤ length lists
   pub room : Room hs ns xs places
   pub few : places < 2 ^ 31 - 2
 
@@ -40,12 +40,12 @@ pub record Listed (h : ℕ → History) (used : ℕ) (margin : Float) (cap : ℕ
   pub bs : List Below
   pub many : length bs ≡ n
   pub decoded : Decoded h used hs ns xs bs
-  pub lists-are : (l : ℕ) → l ∈ links → (e : ℕ) → e ≤ used → tag (h e) ≡ joinTag (h l) → listAt lists bs e ≡ belowOf margin cap (h e)
+  pub lists_are : (l : ℕ) → l ∈ links → (e : ℕ) → e ≤ used → tag (h e) ≡ join_tag (h l) → list_at lists bs e ≡ below_of margin cap (h e)
 
 -- the next free entry; or 0, where the lists have more entries than there are places
 pub data Outcome (h : ℕ → History) (used : ℕ) (margin : Float) (cap : ℕ) (links lists hs ns : List ℕ) (xs : List Float) (places : ℕ) : ℕ → Type 0 where
-  wasFull : places < entriesBelow margin cap (map h links) → Outcome h used margin cap links lists hs ns xs places 0
-  wasFilled : (n : ℕ) → n ≡ entriesBelow margin cap (map h links) → n ≤ places → Listed h used margin cap links lists hs ns xs n → Outcome h used margin cap links lists hs ns xs places (suc n)
+  was_full : places < entries_below margin cap (map h links) → Outcome h used margin cap links lists hs ns xs places 0
+  was_filled : (n : ℕ) → n ≡ entries_below margin cap (map h links) → n ≤ places → Listed h used margin cap links lists hs ns xs n → Outcome h used margin cap links lists hs ns xs places (suc n)
 
 -- the definition's lists, whatever histories the records stand for
 pub record BelowIs (rs : List ℕ) (ls : List ℤ) (gs : List Float) (used : ℕ) (margin : Float) (cap : ℕ) (links lists hs ns : List ℕ) (xs : List Float) (places r : ℕ) : Type 0 where

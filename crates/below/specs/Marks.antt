@@ -3,12 +3,12 @@ use Rattle.std.specs.Prelude.{◌≡◌, ◌⊎◌, ℕ, ◌+◌, ◌-◌, ◌*�
 use Rattle.model.specs.Basics.{◌≼◌}
 use Rattle.tokens.specs.Layout.{held_at, place_in}
 use Rattle.records.specs.History.{History, tag}
-use Rattle.records.specs.Layout.{store, prevAt, kept_at, costAt}
+use Rattle.records.specs.Layout.{store, prev_at, kept_at, cost_at}
 use Rattle.records.specs.Stands.{Stands}
 use Rattle.joins.specs.Walk.{Chains}
-use Rattle.histories.specs.Reading.{joinTag}
+use Rattle.histories.specs.Reading.{join_tag}
 use Rattle.entries.specs.declared.Way.{Way}
-use Rattle.below.specs.Stored.{first_at, countAt}
+use Rattle.below.specs.Stored.{first_at, count_at}
 use Rattle.below.specs.Ways.{OwnWay, KeptWay}
 
 -- ---- the ways
@@ -32,12 +32,12 @@ pub record Cleared (lists : List ℕ) (used : ℕ) : Type 0 where
 -- put on the joins of P, and on no other
 pub record MarksPut (P : ℕ → Type 0) (lists lists' : List ℕ) : Type 0 where
   pub first : (j : ℕ) → first_at lists' j ≡ first_at lists j
-  pub all : (j : ℕ) → 0 < j → P j → 0 < countAt lists' j
-  pub only : (j : ℕ) → (countAt lists' j ≡ countAt lists j) ⊎ ((countAt lists' j ≡ 1) × P j)
+  pub all : (j : ℕ) → 0 < j → P j → 0 < count_at lists' j
+  pub only : (j : ℕ) → (count_at lists' j ≡ count_at lists j) ⊎ ((count_at lists' j ≡ 1) × P j)
 
 -- record j is the newest join of this history
 abbrev pub LeadsTo : (used : ℕ) → (ℕ → History) → History → ℕ → Type 0
-LeadsTo used h x j = (j ≤ used) × (tag (h j) ≡ joinTag x)
+LeadsTo used h x j = (j ≤ used) × (tag (h j) ≡ join_tag x)
 
 pub record EndWanted (rs : List ℕ) (ls : List ℤ) (used link : ℕ) (lists lists' : List ℕ) : Type 0 where
   pub is : (gs : List Float) (h : ℕ → History) → Stands (store rs ls gs) used h → MarksPut (LeadsTo used h (h link)) lists lists'
@@ -47,8 +47,8 @@ abbrev pub link_of : List ℕ → (side s : ℕ) → ℕ
 link_of tk b s = held_at tk (place_in b s) - 1
 
 -- of the first n states
-abbrev pub headLinks : List ℕ → (side : ℕ) → (heads : List ℕ) → (n : ℕ) → List ℕ
-headLinks tk b heads n = map (link_of tk b) (take n heads)
+abbrev pub head_links : List ℕ → (side : ℕ) → (heads : List ℕ) → (n : ℕ) → List ℕ
+head_links tk b heads n = map (link_of tk b) (take n heads)
 
 pub record HeadsAsk (tk rs : List ℕ) (ls : List ℤ) (b used : ℕ) (heads : List ℕ) (n : ℕ) : Type 0 where
   pub side : b ≤ 1
@@ -66,25 +66,25 @@ pub record HeadsWanted (tk rs : List ℕ) (ls : List ℤ) (b used : ℕ) (heads 
 
 -- record r's kept history leads to j, within the margin
 abbrev pub KeptTo : List ℕ → List Float → (used : ℕ) → (margin : Float) → (ℕ → History) → (r j : ℕ) → Type 0
-KeptTo rs gs used margin h r j = ((costAt gs (r - 1) ≼ margin) ≡ true) × LeadsTo used h (h (kept_at rs (r - 1))) j
+KeptTo rs gs used margin h r j = ((cost_at gs (r - 1) ≼ margin) ≡ true) × LeadsTo used h (h (kept_at rs (r - 1))) j
 
 pub record KeptWanted (rs : List ℕ) (ls : List ℤ) (gs : List Float) (used : ℕ) (margin : Float) (r : ℕ) (lists lists' : List ℕ) : Type 0 where
   pub is : (h : ℕ → History) → Stands (store rs ls gs) used h → MarksPut (KeptTo rs gs used margin h r) lists lists'
 
 -- one of its two ways does
 abbrev pub WayTo : List ℕ → List Float → (used : ℕ) → (margin : Float) → (ℕ → History) → (r j : ℕ) → Type 0
-WayTo rs gs used margin h r j = LeadsTo used h (h (prevAt rs (r - 1))) j ⊎ KeptTo rs gs used margin h r j
+WayTo rs gs used margin h r j = LeadsTo used h (h (prev_at rs (r - 1))) j ⊎ KeptTo rs gs used margin h r j
 
 abbrev pub Wanted : List ℕ → ℕ → Type 0
-Wanted lists j = (0 < j) × (0 < countAt lists j)
+Wanted lists j = (0 < j) × (0 < count_at lists j)
 
 pub record WaysWanted (rs : List ℕ) (ls : List ℤ) (gs : List Float) (used : ℕ) (margin : Float) (r : ℕ) (lists lists' : List ℕ) : Type 0 where
   pub is : (h : ℕ → History) → Stands (store rs ls gs) used h → MarksPut (λ j. Wanted lists r × WayTo rs gs used margin h r j) lists lists'
 
 -- led to from a root
 pub data Reach (rs : List ℕ) (gs : List Float) (used : ℕ) (margin : Float) (h : ℕ → History) (R : ℕ → Type 0) : ℕ → Type 0 where
-  fromRoot : {j : ℕ} → R j → Reach rs gs used margin h R j
-  throughWay : {j : ℕ} (r : ℕ) → 0 < r → r ≤ used → Reach rs gs used margin h R r → WayTo rs gs used margin h r j → Reach rs gs used margin h R j
+  from_root : {j : ℕ} → R j → Reach rs gs used margin h R j
+  through_way : {j : ℕ} (r : ℕ) → 0 < r → r ≤ used → Reach rs gs used margin h R r → WayTo rs gs used margin h r j → Reach rs gs used margin h R j
 
 pub record BelowWanted (rs : List ℕ) (ls : List ℤ) (gs : List Float) (used : ℕ) (margin : Float) (lists lists' : List ℕ) : Type 0 where
   pub is : (h : ℕ → History) → Stands (store rs ls gs) used h → MarksPut (Reach rs gs used margin h (Wanted lists)) lists lists'

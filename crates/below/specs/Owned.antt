@@ -12,33 +12,33 @@ use Rattle.std.proofs.Math.ListN.{take}
 use Rattle.std.specs.Float.Ieee.{add, of_bits, le, lt}
 use Rattle.std.proofs.lemmas.Bool.{not-true}
 use Rattle.lists.specs.Tests.{case, holds, is_false}
-use Rattle.lists.specs.Lists.{◌∈◌, keepIf, insertBy, sortBy, firsts}
-use Rattle.lists.specs.Members.{take-from, keep-from, sort-from, firsts-from, map-from}
+use Rattle.lists.specs.Lists.{◌∈◌, keep_if, insert_by, sort_by, firsts}
+use Rattle.lists.specs.Members.{take_from, keep_from, sort_from, firsts_from, map_from}
 use Rattle.real32.specs.Order.{lt_not_le}
 use Rattle.real32.specs.Small.{huge}
 use Rattle.model.specs.Basics.{◌≺◌, ◌≼◌, ◌⊕◌, 0f, ∞}
-use Rattle.model.specs.Readings.{Below, onTop, byWay, sameKey, cheapest}
-use Rattle.records.specs.History.{History, noHistory, linkOn, joinOn}
-use Rattle.below.specs.Lists.{belowOf, Dearer}
-use Rattle.below.specs.Lengths.{on-top-route}
-use Rattle.below.specs.Rising.{on-top-cost, low-on-top, cost-low, below-lows, up_by, below_up}
+use Rattle.model.specs.Readings.{Below, on_top, by_way, same_key, cheapest}
+use Rattle.records.specs.History.{History, no_history, link_on_lem, join_on}
+use Rattle.below.specs.Lists.{below_of, Dearer}
+use Rattle.below.specs.Lengths.{on_top_route}
+use Rattle.below.specs.Rising.{on_top_cost, low_on_top, cost_low, below_lows, up_by, below_up}
 
 pub record OwnFirst (bs : List Below) : Type 0 where
   pub own : Below
   pub rest : List Below
   pub is : bs ≡ own ∷ rest
-  pub no-route : own.route ≡ []
+  pub no_route : own.route ≡ []
   pub free : own.cost ≡ 0f
   pub routed : (b : Below) → b ∈ rest → b.route ≡ [] → ⊥
 
 -- what nothing comes before stays in front
-insert-first : (x : Below) (ys : List Below) → ((y : Below) → y ∈ ys → (y.cost ≺ x.cost) ≡ false) → insertBy (λ (a b : Below). a.cost ≺ b.cost) x ys ≡ x ∷ ys
-insert-first x [] f = refl
-insert-first x (y ∷ ys) f = rw (f y (here refl))
+insert_first : (x : Below) (ys : List Below) → ((y : Below) → y ∈ ys → (y.cost ≺ x.cost) ≡ false) → insert_by (λ (a b : Below). a.cost ≺ b.cost) x ys ≡ x ∷ ys
+insert_first x [] f = refl
+insert_first x (y ∷ ys) f = rw (f y (here refl))
 
-zero-sum : 0f ⊕ 0f ≡ 0f
+zero_sum : 0f ⊕ 0f ≡ 0f
 unfolding add of_bits
-zero-sum = refl
+zero_sum = refl
 
 below_inf : T (0f ≺ ∞)
 unfolding lt of_bits
@@ -46,17 +46,17 @@ below_inf = tt
 
 module _ (margin : Float) (margin-small : T (margin ≺ huge)) (margin-up : T (0f ≼ margin)) where
   -- the first of what the margin leaves, where no other costs less and each takes a kept path
-  cheapest-first : (n : ℕ) (x : Below) (ys : List Below) → x.route ≡ [] → x.cost ≡ 0f → ((y : Below) → y ∈ ys → T (0f ≼ y.cost)) → ((y : Below) → y ∈ ys → y.route ≡ [] → ⊥)
-      → OwnFirst (cheapest (suc n) (keepIf (λ (b : Below). not (margin ≺ b.cost)) (x ∷ ys)))
+  cheapest_first : (n : ℕ) (x : Below) (ys : List Below) → x.route ≡ [] → x.cost ≡ 0f → ((y : Below) → y ∈ ys → T (0f ≼ y.cost)) → ((y : Below) → y ∈ ys → y.route ≡ [] → ⊥)
+      → OwnFirst (cheapest (suc n) (keep_if (λ (b : Below). not (margin ≺ b.cost)) (x ∷ ys)))
   unfolding cheapest
-  cheapest-first n x ys r z up routed =
+  cheapest_first n x ys r z up routed =
       record {
         own = x;
-        rest = take n (firsts sameKey (x ∷ []) (sortBy cheaper (keepIf fit ys)));
-        is = ap (λ (bs : List Below). take (suc n) (firsts sameKey [] bs)) (ap (sortBy cheaper) kept ∙ insert-first x (sortBy cheaper (keepIf fit ys)) behind);
-        no-route = r;
+        rest = take n (firsts same_key (x ∷ []) (sort_by cheaper (keep_if fit ys)));
+        is = ap (λ (bs : List Below). take (suc n) (firsts same_key [] bs)) (ap (sort_by cheaper) kept ∙ insert_first x (sort_by cheaper (keep_if fit ys)) behind);
+        no_route = r;
         free = z;
-        routed = λ b m. routed b (keep-from fit ys b (sort-from cheaper (keepIf fit ys) b (firsts-from sameKey (x ∷ []) (sortBy cheaper (keepIf fit ys)) b (take-from n _ b m))));
+        routed = λ b m. routed b (keep_from fit ys b (sort_from cheaper (keep_if fit ys) b (firsts_from same_key (x ∷ []) (sort_by cheaper (keep_if fit ys)) b (take_from n _ b m))));
       }
     where
       fit : Below → Bool
@@ -65,63 +65,63 @@ module _ (margin : Float) (margin-small : T (margin ≺ huge)) (margin-up : T (0
       cheaper : Below → Below → Bool
       cheaper a b = a.cost ≺ b.cost
 
-      kept : keepIf fit (x ∷ ys) ≡ x ∷ keepIf fit ys
+      kept : keep_if fit (x ∷ ys) ≡ x ∷ keep_if fit ys
       kept =
           let e : (margin ≺ x.cost) ≡ false = ap (λ (c : Float). margin ≺ c) z ∙ is_false (λ t. lt_not_le margin 0f t margin-up) in
-          ap (λ (b : Bool). cond (not b) (x ∷ keepIf fit ys) (keepIf fit ys)) e
+          ap (λ (b : Bool). cond (not b) (x ∷ keep_if fit ys) (keep_if fit ys)) e
 
-      behind : (y : Below) → y ∈ sortBy cheaper (keepIf fit ys) → (y.cost ≺ x.cost) ≡ false
-      behind y m = ap (λ (c : Float). y.cost ≺ c) z ∙ is_false (λ t. lt_not_le y.cost 0f t (up y (keep-from fit ys y (sort-from cheaper (keepIf fit ys) y m))))
+      behind : (y : Below) → y ∈ sort_by cheaper (keep_if fit ys) → (y.cost ≺ x.cost) ≡ false
+      behind y m = ap (λ (c : Float). y.cost ≺ c) z ∙ is_false (λ t. lt_not_le y.cost 0f t (up y (keep_from fit ys y (sort_from cheaper (keep_if fit ys) y m))))
 
-  pub below-own-first : (cap : ℕ) → 0 < cap → (x : History) → Dearer x → OwnFirst (belowOf margin cap x)
-  unfolding belowOf byWay
-  below-own-first cap l noHistory d = record { own = _; rest = []; is = refl; no-route = refl; free = refl; routed = λ b m. elim m [ ] }
-  below-own-first cap l (linkOn n f w s t) d =
-      let o = below-own-first cap l t d in
+  pub below_own_first : (cap : ℕ) → 0 < cap → (x : History) → Dearer x → OwnFirst (below_of margin cap x)
+  unfolding below_of by_way
+  below_own_first cap l no_history d = record { own = _; rest = []; is = refl; no_route = refl; free = refl; routed = λ b m. elim m [ ] }
+  below_own_first cap l (link_on_lem n f w s t) d =
+      let o = below_own_first cap l t d in
       record {
-        own = onTop w o.own;
-        rest = map (onTop w) o.rest;
-        is = ap (map (onTop w)) o.is;
-        no-route = on-top-route w o.own ∙ o.no-route;
-        free = on-top-cost w o.own ∙ o.free;
-        routed = λ b m e. let (c, i, q) = map-from (onTop w) o.rest b m in o.routed c i (sym (on-top-route w c) ∙ ap (λ (y : Below). y.route) (sym q) ∙ e);
+        own = on_top w o.own;
+        rest = map (on_top w) o.rest;
+        is = ap (map (on_top w)) o.is;
+        no_route = on_top_route w o.own ∙ o.no_route;
+        free = on_top_cost w o.own ∙ o.free;
+        routed = λ b m e. let (c, i, q) = map_from (on_top w) o.rest b m in o.routed c i (sym (on_top_route w c) ∙ ap (λ (y : Below). y.route) (sym q) ∙ e);
       }
-  below-own-first zero l (joinOn n f b k t) d = absurd (omega arith)
-  below-own-first (suc cap) l (joinOn n f b k t) d =
-      let o = below-own-first (suc cap) l t d.2 in
-      let down : Below → Below = byWay 0f 0f [] in
-      subst (λ (bs : List Below). OwnFirst (cheapest (suc cap) (keepIf (λ (x : Below). not (margin ≺ x.cost)) (map down bs ++ kepts (b.cost ≼ margin))))) (sym o.is)
-      (cheapest-first cap (down o.own) (map down o.rest ++ kepts (b.cost ≼ margin)) o.no-route (ap (λ (c : Float). 0f ⊕ c) o.free ∙ zero-sum)
-      (λ y m. case (Memᴰ.append_cases (map down o.rest) m) (own-up o y) (kept-up (b.cost ≼ margin) refl y))
-      (λ y m. case (Memᴰ.append_cases (map down o.rest) m) (own-routed o y) (kept-routed (b.cost ≼ margin) y)))
+  below_own_first zero l (join_on n f b k t) d = absurd (omega arith)
+  below_own_first (suc cap) l (join_on n f b k t) d =
+      let o = below_own_first (suc cap) l t d.2 in
+      let down : Below → Below = by_way 0f 0f [] in
+      subst (λ (bs : List Below). OwnFirst (cheapest (suc cap) (keep_if (λ (x : Below). not (margin ≺ x.cost)) (map down bs ++ kepts (b.cost ≼ margin))))) (sym o.is)
+      (cheapest_first cap (down o.own) (map down o.rest ++ kepts (b.cost ≼ margin)) o.no_route (ap (λ (c : Float). 0f ⊕ c) o.free ∙ zero_sum)
+      (λ y m. case (Memᴰ.append_cases (map down o.rest) m) (own_up o y) (kept_up (b.cost ≼ margin) refl y))
+      (λ y m. case (Memᴰ.append_cases (map down o.rest) m) (own_routed o y) (kept_routed (b.cost ≼ margin) y)))
     where
       kepts : Bool → List Below
-      kepts c = cond c (map (byWay b.cost b.graph (n ∷ [])) (map (onTop b.word) (belowOf margin (suc cap) k))) []
+      kepts c = cond c (map (by_way b.cost b.graph (n ∷ [])) (map (on_top b.word) (below_of margin (suc cap) k))) []
 
-      own-up : (o : OwnFirst (belowOf margin (suc cap) t)) (y : Below) → y ∈ map (byWay 0f 0f []) o.rest → T (0f ≼ y.cost)
-      own-up o y m =
-          let (c, i, q) = map-from (byWay 0f 0f []) o.rest y m in
-          let j : c ∈ belowOf margin (suc cap) t = subst (λ (bs : List Below). c ∈ bs) (sym o.is) (there i) in
+      own_up : (o : OwnFirst (below_of margin (suc cap) t)) (y : Below) → y ∈ map (by_way 0f 0f []) o.rest → T (0f ≼ y.cost)
+      own_up o y m =
+          let (c, i, q) = map_from (by_way 0f 0f []) o.rest y m in
+          let j : c ∈ below_of margin (suc cap) t = subst (λ (bs : List Below). c ∈ bs) (sym o.is) (there i) in
           subst (λ (z : Below). T (0f ≼ z.cost)) (sym q)
-          (up_by margin margin-small margin-up 0f 0f [] c (unfold le in tt) below_inf (below-lows margin margin-small (suc cap) t c j) (below_up margin margin-small margin-up (suc cap) t d.2 c j))
+          (up_by margin margin-small margin-up 0f 0f [] c (unfold le in tt) below_inf (below_lows margin margin-small (suc cap) t c j) (below_up margin margin-small margin-up (suc cap) t d.2 c j))
 
-      kept-up : (c : Bool) → (b.cost ≼ margin) ≡ c → (y : Below) → y ∈ kepts c → T (0f ≼ y.cost)
-      kept-up true g y m =
-          let (c, i, q) = map-from (byWay b.cost b.graph (n ∷ [])) (map (onTop b.word) (belowOf margin (suc cap) k)) y m in
-          let (a, j, r) = map-from (onTop b.word) (belowOf margin (suc cap) k) c i in
-          subst (λ (z : Below). T (0f ≼ z.cost)) (sym (q ∙ ap (byWay b.cost b.graph (n ∷ [])) r))
-          (up_by margin margin-small margin-up b.cost b.graph (n ∷ []) (onTop b.word a) d.0 (cost-low margin margin-small b.cost (holds g)) (low-on-top margin margin-small b.word a (below-lows margin margin-small (suc cap) k a j))
-          (subst (λ (z : Float). T (0f ≼ z)) (sym (on-top-cost b.word a)) (below_up margin margin-small margin-up (suc cap) k d.1 a j)))
-      kept-up false g y m = elim m [ ]
+      kept_up : (c : Bool) → (b.cost ≼ margin) ≡ c → (y : Below) → y ∈ kepts c → T (0f ≼ y.cost)
+      kept_up true g y m =
+          let (c, i, q) = map_from (by_way b.cost b.graph (n ∷ [])) (map (on_top b.word) (below_of margin (suc cap) k)) y m in
+          let (a, j, r) = map_from (on_top b.word) (below_of margin (suc cap) k) c i in
+          subst (λ (z : Below). T (0f ≼ z.cost)) (sym (q ∙ ap (by_way b.cost b.graph (n ∷ [])) r))
+          (up_by margin margin-small margin-up b.cost b.graph (n ∷ []) (on_top b.word a) d.0 (cost_low margin margin-small b.cost (holds g)) (low_on_top margin margin-small b.word a (below_lows margin margin-small (suc cap) k a j))
+          (subst (λ (z : Float). T (0f ≼ z)) (sym (on_top_cost b.word a)) (below_up margin margin-small margin-up (suc cap) k d.1 a j)))
+      kept_up false g y m = elim m [ ]
 
-      own-routed : (o : OwnFirst (belowOf margin (suc cap) t)) (y : Below) → y ∈ map (byWay 0f 0f []) o.rest → y.route ≡ [] → ⊥
-      own-routed o y m e = let (c, i, q) = map-from (byWay 0f 0f []) o.rest y m in o.routed c i (ap (λ (z : Below). z.route) (sym q) ∙ e)
+      own_routed : (o : OwnFirst (below_of margin (suc cap) t)) (y : Below) → y ∈ map (by_way 0f 0f []) o.rest → y.route ≡ [] → ⊥
+      own_routed o y m e = let (c, i, q) = map_from (by_way 0f 0f []) o.rest y m in o.routed c i (ap (λ (z : Below). z.route) (sym q) ∙ e)
 
-      kept-routed : (c : Bool) (y : Below) → y ∈ kepts c → y.route ≡ [] → ⊥
-      kept-routed true y m e =
-          let (c, i, q) = map-from (byWay b.cost b.graph (n ∷ [])) (map (onTop b.word) (belowOf margin (suc cap) k)) y m in
-          never-empty c.route (ap (λ (z : Below). z.route) (sym q) ∙ e)
+      kept_routed : (c : Bool) (y : Below) → y ∈ kepts c → y.route ≡ [] → ⊥
+      kept_routed true y m e =
+          let (c, i, q) = map_from (by_way b.cost b.graph (n ∷ [])) (map (on_top b.word) (below_of margin (suc cap) k)) y m in
+          never_empty c.route (ap (λ (z : Below). z.route) (sym q) ∙ e)
         where
-          never-empty : (ns : List ℕ) → n ∷ ns ≡ [] → ⊥
-          never-empty ns e = let z : ◌≡◌ {A = ℕ} 0 1 = cc in omega arith
-      kept-routed false y m e = elim m [ ]
+          never_empty : (ns : List ℕ) → n ∷ ns ≡ [] → ⊥
+          never_empty ns e = let z : ◌≡◌ {A = ℕ} 0 1 = cc in omega arith
+      kept_routed false y m e = elim m [ ]

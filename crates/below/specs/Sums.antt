@@ -4,11 +4,11 @@ use Rattle.std.proofs.Common.{sym, ap, ◌∙◌, subst, arith}
 use mathlib.Core.List.Memᴰ.{head as here}
 use mathlib.Core.List.Memᴰ.{tail as there}
 use Rattle.std.proofs.lemmas.List.{map-append}
-use Rattle.lists.specs.Tests.{case, lt-or-le}
-use Rattle.lists.specs.Lists.{◌∈◌, keepIf, range, sum}
-use Rattle.lists.specs.Members.{keep-from}
+use Rattle.lists.specs.Tests.{case, lt_or_le}
+use Rattle.lists.specs.Lists.{◌∈◌, keep_if, range, sum}
+use Rattle.lists.specs.Members.{keep_from}
 use Rattle.lists.specs.Count.{Nodup}
-use Rattle.below.specs.Maps.{range-member}
+use Rattle.below.specs.Maps.{range_member}
 
 module _ {A : Type 0} (f : A → ℕ) where
   -- the list without one of its members
@@ -16,9 +16,9 @@ module _ {A : Type 0} (f : A → ℕ) where
   without x (y ∷ ys) (here e) = ys
   without x (y ∷ ys) (there m) = y ∷ without x ys m
 
-  sum-without : (x : A) (ys : List A) (m : x ∈ ys) → sum (map f ys) ≡ f x + sum (map f (without x ys m))
-  sum-without x (y ∷ ys) (here e) = ap (λ (z : A). f z + sum (map f ys)) (sym e)
-  sum-without x (y ∷ ys) (there m) = let z = sum-without x ys m in omega arith
+  sum_without : (x : A) (ys : List A) (m : x ∈ ys) → sum (map f ys) ≡ f x + sum (map f (without x ys m))
+  sum_without x (y ∷ ys) (here e) = ap (λ (z : A). f z + sum (map f ys)) (sym e)
+  sum_without x (y ∷ ys) (there m) = let z = sum_without x ys m in omega arith
 
   in_without : (x : A) (ys : List A) (m : x ∈ ys) (z : A) → z ∈ ys → (z ≡ x → ⊥) → z ∈ without x ys m
   in_without x (y ∷ ys) (here e) z (here q) d = absurd (d (q ∙ sym e))
@@ -32,7 +32,7 @@ module _ {A : Type 0} (f : A → ℕ) where
   sum_less (x ∷ xs) ys n g =
       let m = g x (here refl) in
       let l = sum_less xs (without x ys m) n.1 (λ z k. in_without x ys m z (g z (there k)) (λ e. n.0 (subst (λ (w : A). w ∈ xs) e k))) in
-      let e = sum-without x ys m in
+      let e = sum_without x ys m in
       omega arith
 
   -- the same members
@@ -47,48 +47,48 @@ sum-append (x ∷ xs) ys = let z = sum-append xs ys in omega arith
 
 -- they, ascending
 abbrev pub passing : (ℕ → Bool) → ℕ → List ℕ
-passing p n = keepIf p (range 1 n)
+passing p n = keep_if p (range 1 n)
 
-keep-range : (p : ℕ → Bool) (a n : ℕ) → Nodup (keepIf p (range a n))
-keep-range p a zero = tt
-keep-range p a (suc n) = go (p a) (keep-range p (suc a) n)
+keep_range : (p : ℕ → Bool) (a n : ℕ) → Nodup (keep_if p (range a n))
+keep_range p a zero = tt
+keep_range p a (suc n) = go (p a) (keep_range p (suc a) n)
   where
-    go : (b : Bool) → Nodup (keepIf p (range (suc a) n)) → Nodup (cond b (a ∷ keepIf p (range (suc a) n)) (keepIf p (range (suc a) n)))
-    go true d = (λ m. let z = (range-member (suc a) n a (keep-from p (range (suc a) n) a m)).0 in omega arith, d)
+    go : (b : Bool) → Nodup (keep_if p (range (suc a) n)) → Nodup (cond b (a ∷ keep_if p (range (suc a) n)) (keep_if p (range (suc a) n)))
+    go true d = (λ m. let z = (range_member (suc a) n a (keep_from p (range (suc a) n) a m)).0 in omega arith, d)
     go false d = d
 
 -- each once
-pub passing-once : (p : ℕ → Bool) (n : ℕ) → Nodup (passing p n)
-passing-once p n = keep-range p 1 n
+pub passing_once : (p : ℕ → Bool) (n : ℕ) → Nodup (passing p n)
+passing_once p n = keep_range p 1 n
 
 -- from 1 to n
-pub passing-low : (p : ℕ → Bool) (n j : ℕ) → j ∈ passing p n → (0 < j) × (j ≤ n)
-passing-low p n j m = let z = range-member 1 n j (keep-from p (range 1 n) j m) in let x = z.0 in let y = z.1 in (omega arith, omega arith)
+pub passing_low : (p : ℕ → Bool) (n j : ℕ) → j ∈ passing p n → (0 < j) × (j ≤ n)
+passing_low p n j m = let z = range_member 1 n j (keep_from p (range 1 n) j m) in let x = z.0 in let y = z.1 in (omega arith, omega arith)
 
 range_last : (a n : ℕ) → range a (suc n) ≡ range a n ++ ((a + n) ∷ [])
 range_last a zero = ap (λ (k : ℕ). k ∷ []) (let e : a ≡ a + 0 = omega arith in e)
 range_last a (suc n) = ap (λ (l : List ℕ). a ∷ l) (range_last (suc a) n ∙ ap (λ (k : ℕ). range (suc a) n ++ (k ∷ [])) (let e : suc a + n ≡ a + suc n = omega arith in e))
 
-keep_append : (p : ℕ → Bool) (xs ys : List ℕ) → keepIf p (xs ++ ys) ≡ keepIf p xs ++ keepIf p ys
+keep_append : (p : ℕ → Bool) (xs ys : List ℕ) → keep_if p (xs ++ ys) ≡ keep_if p xs ++ keep_if p ys
 keep_append p [] ys = refl
 keep_append p (x ∷ xs) ys = go (p x) (keep_append p xs ys)
   where
-    go : (b : Bool) → keepIf p (xs ++ ys) ≡ keepIf p xs ++ keepIf p ys → cond b (x ∷ keepIf p (xs ++ ys)) (keepIf p (xs ++ ys)) ≡ cond b (x ∷ keepIf p xs) (keepIf p xs) ++ keepIf p ys
+    go : (b : Bool) → keep_if p (xs ++ ys) ≡ keep_if p xs ++ keep_if p ys → cond b (x ∷ keep_if p (xs ++ ys)) (keep_if p (xs ++ ys)) ≡ cond b (x ∷ keep_if p xs) (keep_if p xs) ++ keep_if p ys
     go true e = ap (λ (l : List ℕ). x ∷ l) e
     go false e = e
 
 -- with the next number
-pub passing-next : (p : ℕ → Bool) (n : ℕ) → passing p (suc n) ≡ passing p n ++ cond (p (suc n)) (suc n ∷ []) []
-passing-next p n = ap (keepIf p) (range_last 1 n) ∙ keep_append p (range 1 n) ((1 + n) ∷ []) ∙ ap (λ (k : ℕ). passing p n ++ keepIf p (k ∷ [])) (let e : 1 + n ≡ suc n = omega arith in e)
+pub passing_next : (p : ℕ → Bool) (n : ℕ) → passing p (suc n) ≡ passing p n ++ cond (p (suc n)) (suc n ∷ []) []
+passing_next p n = ap (keep_if p) (range_last 1 n) ∙ keep_append p (range 1 n) ((1 + n) ∷ []) ∙ ap (λ (k : ℕ). passing p n ++ keep_if p (k ∷ [])) (let e : 1 + n ≡ suc n = omega arith in e)
 
 -- a sum over them
 abbrev pub sum_to : (p : ℕ → Bool) → (f : ℕ → ℕ) → ℕ → ℕ
 sum_to p f n = sum (map f (passing p n))
 
 -- with the next number
-pub sum-next : (p : ℕ → Bool) (f : ℕ → ℕ) (n : ℕ) → sum_to p f (suc n) ≡ sum_to p f n + cond (p (suc n)) (f (suc n)) 0
-sum-next p f n =
-    ap (λ (l : List ℕ). sum (map f l)) (passing-next p n) ∙ ap sum (map-append f (passing p n) (cond (p (suc n)) (suc n ∷ []) [])) ∙ sum-append (map f (passing p n)) (map f (cond (p (suc n)) (suc n ∷ []) [])) ∙
+pub sum_next : (p : ℕ → Bool) (f : ℕ → ℕ) (n : ℕ) → sum_to p f (suc n) ≡ sum_to p f n + cond (p (suc n)) (f (suc n)) 0
+sum_next p f n =
+    ap (λ (l : List ℕ). sum (map f l)) (passing_next p n) ∙ ap sum (map-append f (passing p n) (cond (p (suc n)) (suc n ∷ []) [])) ∙ sum-append (map f (passing p n)) (map f (cond (p (suc n)) (suc n ∷ []) [])) ∙
     ap (λ (k : ℕ). sum_to p f n + k) (go (p (suc n)))
   where
     go : (b : Bool) → sum (map f (cond b (suc n ∷ []) [])) ≡ cond b (f (suc n)) 0
@@ -96,7 +96,7 @@ sum-next p f n =
     go false = refl
 
 -- no less further on
-pub sum-upto : (p : ℕ → Bool) (f : ℕ → ℕ) (m n : ℕ) → m ≤ n → sum_to p f m ≤ sum_to p f n
-sum-upto p f m zero l = let e : m ≡ 0 = omega arith in rw e (omega arith)
-sum-upto p f m (suc n) l =
-    case (lt-or-le m (suc n)) (λ a. let z = sum-upto p f m n (omega arith) in let y = sum-next p f n in omega arith) (λ a. let e : m ≡ suc n = omega arith in rw e (omega arith))
+pub sum_upto : (p : ℕ → Bool) (f : ℕ → ℕ) (m n : ℕ) → m ≤ n → sum_to p f m ≤ sum_to p f n
+sum_upto p f m zero l = let e : m ≡ 0 = omega arith in rw e (omega arith)
+sum_upto p f m (suc n) l =
+    case (lt_or_le m (suc n)) (λ a. let z = sum_upto p f m n (omega arith) in let y = sum_next p f n in omega arith) (λ a. let e : m ≡ suc n = omega arith in rw e (omega arith))

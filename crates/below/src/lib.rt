@@ -4,8 +4,8 @@ ghost use Rattle.std.specs.Prelude.{◌≡◌, ◌*◌, ◌+◌, ◌-◌, ◌≤
 ghost use Rattle.model.specs.Basics.{◌≼◌};
 ghost use Rattle.joins.specs.Walk.{Chains};
 ghost use Rattle.traceback.specs.Chain.{Walkable};
-ghost use Rattle.below.specs.Stored.{first_at, countAt};
-ghost use Rattle.below.specs.Marks.{OwnReach, KeptReach, Cleared, MarksPut, EndWanted, HeadsAsk, HeadsWanted, KeptWanted, WaysWanted, BelowWanted, headLinks};
+ghost use Rattle.below.specs.Stored.{first_at, count_at};
+ghost use Rattle.below.specs.Marks.{OwnReach, KeptReach, Cleared, MarksPut, EndWanted, HeadsAsk, HeadsWanted, KeptWanted, WaysWanted, BelowWanted, head_links};
 ghost use Rattle.below.specs.Putting.{ListPut, OneAsks, OneIs, ListsAsk, ListsAre};
 ghost use Rattle.below.specs.Filling.{BelowAsks, BelowIs};
 
@@ -23,7 +23,7 @@ pub fn first_of(lists: &[u32], join: u32) -> u32
 
 pub fn count_of(lists: &[u32], join: u32) -> u32
     requires { join * 2 ≤ length lists.now }
-    ensures { result ≡ countAt lists.now join }
+    ensures { result ≡ count_at lists.now join }
 {
     if join == 0 {
         return 1;
@@ -54,7 +54,7 @@ fn own_way(records: &[u32], labels: &[i32], lists: &[u32], used: u32, r: u32) ->
 // Of a way that costs this; none where the margin cuts it.
 fn count_within(lists: &[u32], join: u32, cost: f32, margin: f32) -> u32
     requires { join * 2 ≤ length lists.now }
-    ensures { result ≡ cond (cost ≼ margin) (countAt lists.now join) 0 }
+    ensures { result ≡ cond (cost ≼ margin) (count_at lists.now join) 0 }
 {
     if cost <= margin {
         return count_of(lists, join);
@@ -307,8 +307,8 @@ pub fn fill_below(
     sums: &mut [f32],
     places: u32,
 ) -> u32
-    requires { (HeadsAsk tokens.now records.now labels.now side used heads.now n) × (BelowAsks records.now labels.now gaps.now used margin (headLinks tokens.now side heads.now n) lists.old hashes.old nexts.old sums.old places) }
-    ensures { BelowIs records.now labels.now gaps.now used margin cap (headLinks tokens.now side heads.now n) lists.new hashes.new nexts.new sums.new places result }
+    requires { (HeadsAsk tokens.now records.now labels.now side used heads.now n) × (BelowAsks records.now labels.now gaps.now used margin (head_links tokens.now side heads.now n) lists.old hashes.old nexts.old sums.old places) }
+    ensures { BelowIs records.now labels.now gaps.now used margin cap (head_links tokens.now side heads.now n) lists.new hashes.new nexts.new sums.new places result }
 {
     clear(lists, used);
     want_heads(tokens, side, records, labels, used, heads, n, lists);

@@ -52,21 +52,21 @@ pub record FormOf {A B : Type 0} (P : A → Type 0) (form : A → B) (r : B) : T
 abbrev pub accepted : Verdict
 accepted = record { number = 0; place = 0; at = 0; arc = 0 }
 
-abbrev pub verdictAt : (number : ℕ) → Place → Verdict
-verdictAt n Nowhere = record { number = n; place = 0; at = 0; arc = 0 }
-verdictAt n (AtArc s i) = record { number = n; place = 1; at = s; arc = i }
-verdictAt n (AtState s) = record { number = n; place = 2; at = s; arc = 0 }
-verdictAt n (AtFrames k) = record { number = n; place = 3; at = k; arc = 0 }
+abbrev pub verdict_at : (number : ℕ) → Place → Verdict
+verdict_at n Nowhere = record { number = n; place = 0; at = 0; arc = 0 }
+verdict_at n (AtArc s i) = record { number = n; place = 1; at = s; arc = i }
+verdict_at n (AtState s) = record { number = n; place = 2; at = s; arc = 0 }
+verdict_at n (AtFrames k) = record { number = n; place = 3; at = k; arc = 0 }
 
-abbrev pub verdictOf : Refusal → Verdict
-verdictOf f = verdictAt f.number f.place
+abbrev pub verdict_of : Refusal → Verdict
+verdict_of f = verdict_at f.number f.place
 
 abbrev pub answer_of : Called → Answer
 answer_of (CallDone d) = record { decoder = d; verdict = accepted }
-answer_of (CallRefused d f) = record { decoder = d; verdict = verdictOf f }
+answer_of (CallRefused d f) = record { decoder = d; verdict = verdict_of f }
 
-abbrev pub noDecoder : Decoder
-noDecoder =
+abbrev pub no_decoder : Decoder
+no_decoder =
     record {
       graph = record { states = 0; arcs = 0; start = 0; pdfs = 0 };
       config = record { beam = 0f; max_active = 0; min_active = 0; beam_delta = 0f };
@@ -79,94 +79,94 @@ noDecoder =
       used = 0;
     }
 
-abbrev pub fittedAnswer : Fitted → Fitting
-fittedAnswer (Unfit f) = record { fitted = false; decoder = noDecoder; verdict = verdictOf f }
-fittedAnswer (Done d) = record { fitted = true; decoder = d; verdict = accepted }
-fittedAnswer (Refused d f) = record { fitted = true; decoder = d; verdict = verdictOf f }
+abbrev pub fitted_answer : Fitted → Fitting
+fitted_answer (Unfit f) = record { fitted = false; decoder = no_decoder; verdict = verdict_of f }
+fitted_answer (Done d) = record { fitted = true; decoder = d; verdict = accepted }
+fitted_answer (Refused d f) = record { fitted = true; decoder = d; verdict = verdict_of f }
 
-abbrev pub builtVerdict : Built → Verdict
-builtVerdict (Accepted g) = accepted
-builtVerdict (NotBuilt f) = verdictOf f
+abbrev pub built_verdict : Built → Verdict
+built_verdict (Accepted g) = accepted
+built_verdict (NotBuilt f) = verdict_of f
 
-abbrev pub noPath : (number : ℕ) → Path
-noPath n = record { number = n; found = false; words = 0; segments = 0; cost = 0f }
+abbrev pub no_path : (number : ℕ) → Path
+no_path n = record { number = n; found = false; words = 0; segments = 0; cost = 0f }
 
-abbrev pub pathOf : BestPath → Path
-pathOf (PathRefused n) = noPath n
-pathOf Nobody = noPath 0
-pathOf (PathFound z c) = record { number = 0; found = true; words = z.words; segments = z.segments; cost = c }
+abbrev pub path_of : BestPath → Path
+path_of (PathRefused n) = no_path n
+path_of Nobody = no_path 0
+path_of (PathFound z c) = record { number = 0; found = true; words = z.words; segments = z.segments; cost = c }
 
-abbrev pub noCount : (number : ℕ) → Count
-noCount n = record { number = n; count = 0 }
+abbrev pub no_count : (number : ℕ) → Count
+no_count n = record { number = n; count = 0 }
 
 abbrev pub count_of : ℕ → Count
 count_of n = record { number = 0; count = n }
 
-abbrev pub listedCount : Listed → Count
-listedCount (PathsRefused n) = noCount n
-listedCount (Paths n) = count_of n
+abbrev pub listed_count : Listed → Count
+listed_count (PathsRefused n) = no_count n
+listed_count (Paths n) = count_of n
 
-abbrev pub readingCount : ReadingList → Count
-readingCount (ReadingsRefused n) = noCount n
-readingCount (Readings n) = count_of n
+abbrev pub reading_count : ReadingList → Count
+reading_count (ReadingsRefused n) = no_count n
+reading_count (Readings n) = count_of n
 
-abbrev pub noSilence : (number : ℕ) → Silence
-noSilence n = record { state = record { weight = 0f; subsampling = 0; frames = 0 }; number = n; count = 0 }
+abbrev pub no_silence : (number : ℕ) → Silence
+no_silence n = record { state = record { weight = 0f; subsampling = 0; frames = 0 }; number = n; count = 0 }
 
-abbrev pub silenceAt : SilenceWeighting → (count : ℕ) → Silence
-silenceAt s n = record { state = s; number = 0; count = n }
+abbrev pub silence_at : SilenceWeighting → (count : ℕ) → Silence
+silence_at s n = record { state = s; number = 0; count = n }
 
-abbrev pub silenceOf : Next → Silence
-silenceOf (NextRefused n) = noSilence n
-silenceOf (State s) = silenceAt s 0
+abbrev pub silence_of : Next → Silence
+silence_of (NextRefused n) = no_silence n
+silence_of (State s) = silence_at s 0
 
-abbrev pub weighedOf : Weighed → Silence
-weighedOf (WeighedRefused n) = noSilence n
-weighedOf (Deltas s n) = silenceAt s n
+abbrev pub weighed_of : Weighed → Silence
+weighed_of (WeighedRefused n) = no_silence n
+weighed_of (Deltas s n) = silence_at s n
 
-abbrev pub trailingCount : Trailing → Count
-trailingCount (TrailingRefused n) = noCount n
-trailingCount (Frames n) = count_of n
+abbrev pub trailing_count : Trailing → Count
+trailing_count (TrailingRefused n) = no_count n
+trailing_count (Frames n) = count_of n
 
-abbrev pub noIndex : (number : ℕ) → Index
-noIndex n = record { number = n; found = false; index = 0 }
+abbrev pub no_index : (number : ℕ) → Index
+no_index n = record { number = n; found = false; index = 0 }
 
-abbrev pub foundIndex : Found → Index
-foundIndex (At i) = record { number = 0; found = true; index = i }
-foundIndex Nothing = noIndex 0
-foundIndex (SearchRefused n) = noIndex n
+abbrev pub found_index : Found → Index
+found_index (At i) = record { number = 0; found = true; index = i }
+found_index Nothing = no_index 0
+found_index (SearchRefused n) = no_index n
 
-abbrev pub shuffledNumber : Shuffled → ℕ
-shuffledNumber ShuffleDone = 0
-shuffledNumber (ShuffleRefused n) = n
+abbrev pub shuffled_number : Shuffled → ℕ
+shuffled_number ShuffleDone = 0
+shuffled_number (ShuffleRefused n) = n
 
-abbrev pub courseNumbers : Course → CourseAt
-courseNumbers (AtCourse c r) = record { number = 0; course = c; remainder = r }
-courseNumbers (CourseRefused n) = record { number = n; course = 0; remainder = 0 }
+abbrev pub course_numbers : Course → CourseAt
+course_numbers (AtCourse c r) = record { number = 0; course = c; remainder = r }
+course_numbers (CourseRefused n) = record { number = n; course = 0; remainder = 0 }
 
-abbrev pub lineCount : Written → Count
-lineCount (LineRefused n) = noCount n
-lineCount (Length n) = count_of n
+abbrev pub line_count : Written → Count
+line_count (LineRefused n) = no_count n
+line_count (Length n) = count_of n
 
 -- number 0 where the bytes are no refusal's line
-abbrev pub lineVerdict : Read → Verdict
-lineVerdict (Line f) = verdictOf f
-lineVerdict NoLine = accepted
+abbrev pub line_verdict : Read → Verdict
+line_verdict (Line f) = verdict_of f
+line_verdict NoLine = accepted
 
 -- the refusal that a verdict tells; one without a number where the place is none of the four
-abbrev pub refusalTold : Verdict → Refusal
-refusalTold v =
+abbrev pub refusal_told : Verdict → Refusal
+refusal_told v =
     cond (eqb v.place 0) (record { number = v.number; place = Nowhere })
     (cond (eqb v.place 1) (record { number = v.number; place = AtArc v.at v.arc })
     (cond (eqb v.place 2) (record { number = v.number; place = AtState v.at })
     (cond (eqb v.place 3) (record { number = v.number; place = AtFrames v.at }) (record { number = 0; place = Nowhere }))))
 
 -- a verdict tells the refusal that it was made of
-pub told-again : (f : Refusal) → refusalTold (verdictOf f) ≡ f
-told-again f = of-place f.number f.place
+pub told_again : (f : Refusal) → refusal_told (verdict_of f) ≡ f
+told_again f = of_place f.number f.place
   where
-    of-place : (n : ℕ) (p : Place) → refusalTold (verdictAt n p) ≡ record { number = n; place = p }
-    of-place n Nowhere = refl
-    of-place n (AtArc s i) = refl
-    of-place n (AtState s) = refl
-    of-place n (AtFrames k) = refl
+    of_place : (n : ℕ) (p : Place) → refusal_told (verdict_at n p) ≡ record { number = n; place = p }
+    of_place n Nowhere = refl
+    of_place n (AtArc s i) = refl
+    of_place n (AtState s) = refl
+    of_place n (AtFrames k) = refl

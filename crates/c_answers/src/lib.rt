@@ -1,6 +1,6 @@
 // What an answer is told by in C: an enum has no form there, so a struct of numbers tells it, whose `number` is 0 or the refusal's.
 ghost use Rattle.std.specs.Prelude.{◌≡◌};
-ghost use Rattle.c_answers.specs.Forms.{accepted, noDecoder, verdictOf, answer_of, fittedAnswer, builtVerdict, noPath, pathOf, noCount, count_of, listedCount, readingCount, noSilence, silenceAt, silenceOf, weighedOf, trailingCount, noIndex, foundIndex, shuffledNumber, courseNumbers, refusalTold, lineCount, lineVerdict};
+ghost use Rattle.c_answers.specs.Forms.{accepted, no_decoder, verdict_of, answer_of, fitted_answer, built_verdict, no_path, path_of, no_count, count_of, listed_count, reading_count, no_silence, silence_at, silence_of, weighed_of, trailing_count, no_index, found_index, shuffled_number, course_numbers, refusal_told, line_count, line_verdict};
 
 use courses::Course;
 use cutoff::Config;
@@ -118,7 +118,7 @@ fn accepted_verdict() -> Verdict
 }
 
 fn verdict_of(why: Refusal) -> Verdict
-    ensures { result ≡ verdictOf why }
+    ensures { result ≡ verdict_of why }
 {
     let number = why.number;
     let place = why.place;
@@ -166,7 +166,7 @@ pub fn answer_of(called: Called) -> Answer
 }
 
 fn no_decoder() -> Decoder
-    ensures { result ≡ noDecoder }
+    ensures { result ≡ no_decoder }
 {
     let graph = Graph {
         states: 0,
@@ -194,7 +194,7 @@ fn no_decoder() -> Decoder
 }
 
 pub fn fitted_answer(fitted: Fitted) -> Fitting
-    ensures { result ≡ fittedAnswer fitted }
+    ensures { result ≡ fitted_answer fitted }
 {
     match fitted {
         Fitted::Unfit(why) => Fitting {
@@ -216,7 +216,7 @@ pub fn fitted_answer(fitted: Fitted) -> Fitting
 }
 
 pub fn built_verdict(built: Built) -> Verdict
-    ensures { result ≡ builtVerdict built }
+    ensures { result ≡ built_verdict built }
 {
     match built {
         Built::Accepted(_) => accepted_verdict(),
@@ -225,7 +225,7 @@ pub fn built_verdict(built: Built) -> Verdict
 }
 
 fn no_path(number: u32) -> Path
-    ensures { result ≡ noPath number }
+    ensures { result ≡ no_path number }
 {
     Path {
         number,
@@ -237,7 +237,7 @@ fn no_path(number: u32) -> Path
 }
 
 pub fn path_of(best: BestPath) -> Path
-    ensures { result ≡ pathOf best }
+    ensures { result ≡ path_of best }
 {
     match best {
         BestPath::Refused(n) => no_path(n),
@@ -253,7 +253,7 @@ pub fn path_of(best: BestPath) -> Path
 }
 
 fn no_count(number: u32) -> Count
-    ensures { result ≡ noCount number }
+    ensures { result ≡ no_count number }
 {
     Count { number, count: 0 }
 }
@@ -268,7 +268,7 @@ fn counted(n: u64) -> Count
 }
 
 pub fn listed_count(listed: Listed) -> Count
-    ensures { result ≡ listedCount listed }
+    ensures { result ≡ listed_count listed }
 {
     match listed {
         Listed::Refused(n) => no_count(n),
@@ -277,7 +277,7 @@ pub fn listed_count(listed: Listed) -> Count
 }
 
 pub fn reading_count(list: ReadingList) -> Count
-    ensures { result ≡ readingCount list }
+    ensures { result ≡ reading_count list }
 {
     match list {
         ReadingList::Refused(n) => no_count(n),
@@ -286,7 +286,7 @@ pub fn reading_count(list: ReadingList) -> Count
 }
 
 fn no_silence(number: u32) -> Silence
-    ensures { result ≡ noSilence number }
+    ensures { result ≡ no_silence number }
 {
     let state = SilenceWeighting {
         weight: 0.0,
@@ -301,7 +301,7 @@ fn no_silence(number: u32) -> Silence
 }
 
 fn silence_at(state: SilenceWeighting, count: u64) -> Silence
-    ensures { result ≡ silenceAt state count }
+    ensures { result ≡ silence_at state count }
 {
     Silence {
         state,
@@ -311,7 +311,7 @@ fn silence_at(state: SilenceWeighting, count: u64) -> Silence
 }
 
 pub fn silence_of(next: Next) -> Silence
-    ensures { result ≡ silenceOf next }
+    ensures { result ≡ silence_of next }
 {
     match next {
         Next::Refused(n) => no_silence(n),
@@ -320,7 +320,7 @@ pub fn silence_of(next: Next) -> Silence
 }
 
 pub fn weighed_silence(w: Weighed) -> Silence
-    ensures { result ≡ weighedOf w }
+    ensures { result ≡ weighed_of w }
 {
     match w {
         Weighed::Refused(n) => no_silence(n),
@@ -329,7 +329,7 @@ pub fn weighed_silence(w: Weighed) -> Silence
 }
 
 pub fn trailing_count(t: Trailing) -> Count
-    ensures { result ≡ trailingCount t }
+    ensures { result ≡ trailing_count t }
 {
     match t {
         Trailing::Refused(n) => no_count(n),
@@ -338,7 +338,7 @@ pub fn trailing_count(t: Trailing) -> Count
 }
 
 fn no_index(number: u32) -> Index
-    ensures { result ≡ noIndex number }
+    ensures { result ≡ no_index number }
 {
     Index {
         number,
@@ -348,7 +348,7 @@ fn no_index(number: u32) -> Index
 }
 
 pub fn index_of(found: Found) -> Index
-    ensures { result ≡ foundIndex found }
+    ensures { result ≡ found_index found }
 {
     match found {
         Found::At(i) => Index {
@@ -362,7 +362,7 @@ pub fn index_of(found: Found) -> Index
 }
 
 pub fn shuffled_number(s: Shuffled) -> u32
-    ensures { result ≡ shuffledNumber s }
+    ensures { result ≡ shuffled_number s }
 {
     match s {
         Shuffled::Done => 0,
@@ -371,7 +371,7 @@ pub fn shuffled_number(s: Shuffled) -> u32
 }
 
 pub fn course_numbers(c: Course) -> CourseAt
-    ensures { result ≡ courseNumbers c }
+    ensures { result ≡ course_numbers c }
 {
     match c {
         Course::At { course, remainder } => CourseAt {
@@ -389,7 +389,7 @@ pub fn course_numbers(c: Course) -> CourseAt
 
 // The refusal that a verdict tells. One with none of the four places tells no refusal, as one with the number 0 does.
 pub fn refusal_told(verdict: Verdict) -> Refusal
-    ensures { result ≡ refusalTold verdict }
+    ensures { result ≡ refusal_told verdict }
 {
     let number = verdict.number;
     let place = verdict.place;
@@ -420,7 +420,7 @@ pub fn refusal_told(verdict: Verdict) -> Refusal
 }
 
 pub fn line_count(written: Written) -> Count
-    ensures { result ≡ lineCount written }
+    ensures { result ≡ line_count written }
 {
     match written {
         Written::Length(n) => counted(n as u64),
@@ -430,7 +430,7 @@ pub fn line_count(written: Written) -> Count
 
 // The number is 0 where the bytes are no refusal's line.
 pub fn line_verdict(read: Read) -> Verdict
-    ensures { result ≡ lineVerdict read }
+    ensures { result ≡ line_verdict read }
 {
     match read {
         Read::Line(why) => verdict_of(why),

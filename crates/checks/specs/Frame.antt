@@ -7,8 +7,8 @@ use Rattle.real32.specs.Small.{tame}
 use Rattle.model.specs.Basics.{first_of, refuse}
 
 -- every log-likelihood, one after the other
-pub all-next : (p : Float → Bool) (xs : List Float) (i : ℕ) (d : Float) → i < length xs → all p (drop i xs) ≡ (p (get_or xs i d) && all p (drop (i + 1) xs))
-all-next p xs i d l =
+pub all_next : (p : Float → Bool) (xs : List Float) (i : ℕ) (d : Float) → i < length xs → all p (drop i xs) ≡ (p (get_or xs i d) && all p (drop (i + 1) xs))
+all_next p xs i d l =
     let one : suc i ≡ i + 1 = omega arith in
     ap (all p) (drop-cons xs i d l) ∙ ap (λ (k : ℕ). p (get_or xs i d) && all p (drop k xs)) one
 
@@ -20,5 +20,5 @@ number_of (some n) = n
 abbrev pub numbered : (a b t : Bool) → ℕ
 numbered a b t = number_of (first_of (refuse 10 a ∷ refuse 8 b ∷ refuse 9 t ∷ []))
 
-abbrev pub frameNumber : (loglikes : List Float) → (frames pdfs : ℕ) → ℕ
-frameNumber ls n pdfs = numbered (leb 65_536 n) (not (eqb (length ls) pdfs)) (not (all tame ls))
+abbrev pub frame_number : (loglikes : List Float) → (frames pdfs : ℕ) → ℕ
+frame_number ls n pdfs = numbered (leb 65_536 n) (not (eqb (length ls) pdfs)) (not (all tame ls))

@@ -4,7 +4,7 @@ use Rattle.std.proofs.Common.{sym, ap, ◌∙◌}
 use Rattle.std.proofs.Math.Option.{Option, none, some}
 use Rattle.std.specs.Float.Ieee.{neg, lt}
 use Rattle.lists.specs.Tests.{holds, is_true}
-use Rattle.real32.specs.Order.{lt-le-trans}
+use Rattle.real32.specs.Order.{lt_le_trans}
 use Rattle.real32.specs.Small.{huge, tame}
 use Rattle.model.specs.Basics.{◌≺◌, ◌≼◌, 0f}
 use Rattle.model.specs.Passes.{fair}
@@ -14,19 +14,19 @@ abbrev pub asked : (keeps : Bool) → Float → Option Float
 asked keeps x = cond keeps (some x) none
 
 -- the code's two tests are the definition's
-and-true : (b : Bool) → (b && true) ≡ b
-and-true true = refl
-and-true false = refl
+and_true : (b : Bool) → (b && true) ≡ b
+and_true true = refl
+and_true false = refl
 
-below-zero : T (lt (neg huge) 0f)
+below_zero : T (lt (neg huge) 0f)
 unfolding lt neg
-below-zero = tt
+below_zero = tt
 
-pub fair-is : (x : Float) → (0f ≼ x) ≡ true → tame x ≡ fair x
+pub fair_is : (x : Float) → (0f ≼ x) ≡ true → tame x ≡ fair x
 unfolding tame fair
-fair-is x e =
-    ap (λ (b : Bool). x ≺ huge && b) (is_true (lt-le-trans (neg huge) 0f x below-zero (holds e))) ∙ and-true (x ≺ huge) ∙ sym (ap (λ (b : Bool). b && x ≺ huge) e)
+fair_is x e =
+    ap (λ (b : Bool). x ≺ huge && b) (is_true (lt_le_trans (neg huge) 0f x below_zero (holds e))) ∙ and_true (x ≺ huge) ∙ sym (ap (λ (b : Bool). b && x ≺ huge) e)
 
-pub unfair-is : (x : Float) → (0f ≼ x) ≡ false → false ≡ fair x
+pub unfair_is : (x : Float) → (0f ≼ x) ≡ false → false ≡ fair x
 unfolding fair
-unfair-is x e = sym (ap (λ (b : Bool). b && x ≺ huge) e)
+unfair_is x e = sym (ap (λ (b : Bool). b && x ≺ huge) e)

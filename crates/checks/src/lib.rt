@@ -2,7 +2,7 @@
 ghost use Rattle.std.specs.Prelude.{◌≡◌, not, ◌||◌, ◌/◌, [], ◌∷◌};
 ghost use Rattle.lists.specs.Lists.{all};
 ghost use Rattle.real32.specs.Small.{tame};
-ghost use Rattle.model.specs.Passes.{fair, fairMargin};
+ghost use Rattle.model.specs.Passes.{fair, fair_margin};
 ghost use Rattle.checks.specs.Fit.{leastOf, recordPlaces, configWrong, storesWrong};
 ghost use Rattle.checks.specs.Frame.{frameNumber};
 ghost use Rattle.checks.specs.Margin.{asked};
@@ -142,7 +142,7 @@ pub fn check_frame(loglikes: &[f32], frames: u32, pdfs: u32) -> u32
 
 // 6: a margin that is negative, not finite, or 2^100 or more.
 pub fn margin_wrong(keeps: bool, margin: f32) -> bool
-    ensures { result ≡ not (fairMargin (asked keeps margin)) }
+    ensures { result ≡ not (fair_margin (asked keeps margin)) }
 {
     if !keeps {
         return false;

@@ -9,55 +9,55 @@ use mathlib.Core.List.{List}
 use lib.Dec.{eqb}
 use lib.ListN.{length}
 use borrow.Author.Tests.{eq-eqb, ne_eqb}
-use Rattle.lists.specs.Tests.{case, lt-or-le}
-use Rattle.records.specs.Layout.{Store, Rec, recAt, prevAt, kept_at}
+use Rattle.lists.specs.Tests.{case, lt_or_le}
+use Rattle.records.specs.Layout.{Store, Rec, rec_at, prev_at, kept_at}
 use Rattle.records.specs.Shape.{Shape}
-use Rattle.compaction.specs.Marks.{newOf, Marked}
+use Rattle.compaction.specs.Marks.{new_of, Marked}
 use Rattle.compaction.specs.Slide.{renumbered, Slid, SlidOne}
-use Rattle.compaction.proofs.Moves.{mark_on, mark-off, afterMove, record-on, record-off}
+use Rattle.compaction.proofs.Moves.{mark_on, mark_off, after_move, record_on, record_off}
 
 -- ---- a table of old numbers with one more
 
-with-one : (ℕ → ℕ) → ℕ → ℕ → ℕ → ℕ
-with-one f k v j = cond (eqb j k) v (f j)
+with_one : (ℕ → ℕ) → ℕ → ℕ → ℕ → ℕ
+with_one f k v j = cond (eqb j k) v (f j)
 
-with-same : (f : ℕ → ℕ) (k v : ℕ) → with-one f k v k ≡ v
-unfolding with-one
-with-same f k v = rw (eq-eqb k k refl)
+with_same : (f : ℕ → ℕ) (k v : ℕ) → with_one f k v k ≡ v
+unfolding with_one
+with_same f k v = rw (eq-eqb k k refl)
 
-with-other : (f : ℕ → ℕ) (k v j : ℕ) → (j ≡ k → ⊥) → with-one f k v j ≡ f j
-unfolding with-one
-with-other f k v j d = rw (ne_eqb j k d)
+with_other : (f : ℕ → ℕ) (k v j : ℕ) → (j ≡ k → ⊥) → with_one f k v j ≡ f j
+unfolding with_one
+with_other f k v j d = rw (ne_eqb j k d)
 
-upto-suc : (r k : ℕ) → r ≤ suc k → (r ≤ k) ⊎ (r ≡ suc k)
-upto-suc r k l = case (lt-or-le k r) (λ a. inr (omega arith)) inl
+upto_suc : (r k : ℕ) → r ≤ suc k → (r ≤ k) ⊎ (r ≡ suc k)
+upto_suc r k l = case (lt_or_le k r) (λ a. inr (omega arith)) inl
 
 -- ---- one record
 
-none-marked : (rs : List ℕ) → newOf rs 0 ≡ 0
-unfolding newOf
-none-marked rs = refl
+none_marked : (rs : List ℕ) → new_of rs 0 ≡ 0
+unfolding new_of
+none_marked rs = refl
 
-pub slid-none : (s : Store) → Slid s s 0 0
-slid-none s =
+pub slid_none : (s : Store) → Slid s s 0 0
+slid_none s =
     record {
       old = λ j. 0;
       few = omega arith;
       none = refl;
       upto = λ j l. omega arith;
       ascends = λ i j l u. absurd (omega arith);
-      forth = λ j l. none-marked s.records ∙ omega arith;
-      small = λ r l. let e : r ≡ 0 = omega arith in rw (e, none-marked s.records) (omega arith);
+      forth = λ j l. none_marked s.records ∙ omega arith;
+      small = λ r l. let e : r ≡ 0 = omega arith in rw (e, none_marked s.records) (omega arith);
       back = λ r l w. omega arith;
       live = λ j a b. absurd (omega arith);
       moved = λ j l. absurd (omega arith);
-      marks-left = λ r l. refl;
-      records-left = λ i l. refl;
+      marks_left = λ r l. refl;
+      records_left = λ i l. refl;
     }
 
 module _ (s s' : Store) (k n : ℕ) (S : Slid s s' k n) where
-  pub slid-skip : newOf s'.records (suc k) ≡ 0 → Slid s s' (suc k) n
-  slid-skip h =
+  pub slid_skip : new_of s'.records (suc k) ≡ 0 → Slid s s' (suc k) n
+  slid_skip h =
       record {
         old = S.old;
         few = omega (arith, S.few);
@@ -65,120 +65,120 @@ module _ (s s' : Store) (k n : ℕ) (S : Slid s s' k n) where
         upto = λ j l. omega (arith, S.upto j l);
         ascends = S.ascends;
         forth = S.forth;
-        small = λ r l. case (upto-suc r k l) (S.small r) (λ e. rw (e, h) (omega arith));
-        back = λ r l w. case (upto-suc r k l) (λ a. S.back r a w) (λ e. absurd (omega (arith, h, S.marks-left (suc k) (omega arith), subst (Marked s.records) e w)));
+        small = λ r l. case (upto_suc r k l) (S.small r) (λ e. rw (e, h) (omega arith));
+        back = λ r l w. case (upto_suc r k l) (λ a. S.back r a w) (λ e. absurd (omega (arith, h, S.marks_left (suc k) (omega arith), subst (Marked s.records) e w)));
         live = S.live;
         moved = S.moved;
-        marks-left = λ r l. S.marks-left r (omega arith);
-        records-left = λ i l. S.records-left i (omega arith);
+        marks_left = λ r l. S.marks_left r (omega arith);
+        records_left = λ i l. S.records_left i (omega arith);
       }
 
-  module _ (low : (i : ℕ) → i ≤ k → ((recAt s i).prev ≤ i) × ((recAt s i).kept ≤ i)) (hit : Marked s'.records (suc k)) (rr : k * 8 + 8 ≤ length s'.records) (rl : k * 2 + 2 ≤ length s'.labels)
+  module _ (low : (i : ℕ) → i ≤ k → ((rec_at s i).prev ≤ i) × ((rec_at s i).kept ≤ i)) (hit : Marked s'.records (suc k)) (rr : k * 8 + 8 ≤ length s'.records) (rl : k * 2 + 2 ≤ length s'.labels)
       (rg : k * 2 + 2 ≤ length s'.gaps) where
     abbrev p : ℕ
-    p = newOf s'.records (recAt s' k).prev
+    p = new_of s'.records (rec_at s' k).prev
 
     abbrev q : ℕ
-    q = newOf s'.records (recAt s' k).kept
+    q = new_of s'.records (rec_at s' k).kept
 
     next : Store
-    next = afterMove s' k n p q
+    next = after_move s' k n p q
 
     old' : ℕ → ℕ
-    old' = with-one S.old (suc n) (suc k)
+    old' = with_one S.old (suc n) (suc k)
 
-    old-new : old' (suc n) ≡ suc k
+    old_new : old' (suc n) ≡ suc k
     unfolding old'
-    old-new = with-same S.old (suc n) (suc k)
+    old_new = with_same S.old (suc n) (suc k)
 
-    old-old : (j : ℕ) → j ≤ n → old' j ≡ S.old j
+    old_old : (j : ℕ) → j ≤ n → old' j ≡ S.old j
     unfolding old'
-    old-old j l = with-other S.old (suc n) (suc k) j (λ e. omega arith)
+    old_old j l = with_other S.old (suc n) (suc k) j (λ e. omega arith)
 
-    m-new : newOf next.records (suc k) ≡ suc n
+    m_new : new_of next.records (suc k) ≡ suc n
     unfolding next
-    m-new = mark_on s'.records k n p q rr
+    m_new = mark_on s'.records k n p q rr
 
-    m-old : (r : ℕ) → (r ≡ suc k → ⊥) → newOf next.records r ≡ newOf s'.records r
+    m_old : (r : ℕ) → (r ≡ suc k → ⊥) → new_of next.records r ≡ new_of s'.records r
     unfolding next
-    m-old = mark-off s'.records k n p q
+    m_old = mark_off s'.records k n p q
 
     was : Marked s.records (suc k)
-    was = rw (S.marks-left (suc k) (omega arith)) at hit
+    was = rw (S.marks_left (suc k) (omega arith)) at hit
 
     -- the numbers of what lies at or below k stand
-    number_same : (i : ℕ) → i ≤ k → renumbered next.records (recAt s i) ≡ renumbered s'.records (recAt s i)
+    number_same : (i : ℕ) → i ≤ k → renumbered next.records (rec_at s i) ≡ renumbered s'.records (rec_at s i)
     number_same i l =
         let b = low i l in
-        rw (m-old (recAt s i).prev (λ e. omega (arith, b.0)), m-old (recAt s i).kept (λ e. omega (arith, b.1)))
+        rw (m_old (rec_at s i).prev (λ e. omega (arith, b.0)), m_old (rec_at s i).kept (λ e. omega (arith, b.1)))
 
-    record-new : recAt next n ≡ renumbered next.records (recAt s k)
+    record_new : rec_at next n ≡ renumbered next.records (rec_at s k)
     unfolding next
-    record-new =
+    record_new =
         let few = S.few in
-        record-on s' k n p q (omega arith) (omega arith) (omega arith) ∙ ap (renumbered s'.records) (S.records-left k (omega arith)) ∙ sym (number_same k (omega arith))
+        record_on s' k n p q (omega arith) (omega arith) (omega arith) ∙ ap (renumbered s'.records) (S.records_left k (omega arith)) ∙ sym (number_same k (omega arith))
 
-    record-old : (j : ℕ) → (j ≡ n → ⊥) → recAt next j ≡ recAt s' j
+    record_old : (j : ℕ) → (j ≡ n → ⊥) → rec_at next j ≡ rec_at s' j
     unfolding next
-    record-old = record-off s' k n p q
+    record_old = record_off s' k n p q
 
-    moved' : (j : ℕ) → j < suc n → recAt next j ≡ renumbered next.records (recAt s (old' (suc j) - 1))
+    moved' : (j : ℕ) → j < suc n → rec_at next j ≡ renumbered next.records (rec_at s (old' (suc j) - 1))
     moved' j l =
-        case (lt-or-le j n)
+        case (lt_or_le j n)
         (λ a.
         let o = S.upto (suc j) a in
-        record-old j (λ e. omega arith) ∙ S.moved j a ∙ sym (number_same (S.old (suc j) - 1) (omega arith)) ∙ ap (λ (x : ℕ). renumbered next.records (recAt s (x - 1))) (sym (old-old (suc j) a)))
+        record_old j (λ e. omega arith) ∙ S.moved j a ∙ sym (number_same (S.old (suc j) - 1) (omega arith)) ∙ ap (λ (x : ℕ). renumbered next.records (rec_at s (x - 1))) (sym (old_old (suc j) a)))
         (λ a.
         let e : j ≡ n = omega arith in
         let b : suc k - 1 ≡ k = omega arith in
-        rw (e, old-new, b) record-new)
+        rw (e, old_new, b) record_new)
 
-    pub slid-more : Slid s (afterMove s' k n p q) (suc k) (suc n)
+    pub slid_more : Slid s (after_move s' k n p q) (suc k) (suc n)
     unfolding next
-    slid-more =
+    slid_more =
         record {
           old = old';
           few = omega (arith, S.few);
-          none = old-old 0 (omega arith) ∙ S.none;
-          upto = λ j l. case (upto-suc j n l) (λ a. rw (old-old j a) (omega (arith, S.upto j a))) (λ e. rw (e, old-new) (omega arith));
-          ascends = λ i j a l. case (upto-suc j n l) (λ b. rw (old-old i (omega arith), old-old j b) (S.ascends i j a b))
-              (λ e. rw (e, old-new, old-old i (omega arith)) (omega (arith, S.upto i (omega arith))));
-          forth = λ j l. case (upto-suc j n l) (λ b. rw (old-old j b, m-old (S.old j) (λ e. omega (arith, S.upto j b))) (S.forth j b)) (λ e. rw (e, old-new, m-new));
-          small = λ r l. case (upto-suc r k l) (λ a. rw (m-old r (λ e. omega arith)) (omega (arith, S.small r a))) (λ e. rw (e, m-new) (omega arith));
-          back = λ r l w. case (upto-suc r k l) (λ a. rw (m-old r (λ e. omega arith)) (old-old (newOf s'.records r) (S.small r a) ∙ S.back r a w)) (λ e. rw (e, m-new, old-new));
-          live = λ j a l. case (upto-suc j n l) (λ b. rw (old-old j b) (S.live j a b)) (λ e. rw (e, old-new) was);
+          none = old_old 0 (omega arith) ∙ S.none;
+          upto = λ j l. case (upto_suc j n l) (λ a. rw (old_old j a) (omega (arith, S.upto j a))) (λ e. rw (e, old_new) (omega arith));
+          ascends = λ i j a l. case (upto_suc j n l) (λ b. rw (old_old i (omega arith), old_old j b) (S.ascends i j a b))
+              (λ e. rw (e, old_new, old_old i (omega arith)) (omega (arith, S.upto i (omega arith))));
+          forth = λ j l. case (upto_suc j n l) (λ b. rw (old_old j b, m_old (S.old j) (λ e. omega (arith, S.upto j b))) (S.forth j b)) (λ e. rw (e, old_new, m_new));
+          small = λ r l. case (upto_suc r k l) (λ a. rw (m_old r (λ e. omega arith)) (omega (arith, S.small r a))) (λ e. rw (e, m_new) (omega arith));
+          back = λ r l w. case (upto_suc r k l) (λ a. rw (m_old r (λ e. omega arith)) (old_old (new_of s'.records r) (S.small r a) ∙ S.back r a w)) (λ e. rw (e, m_new, old_new));
+          live = λ j a l. case (upto_suc j n l) (λ b. rw (old_old j b) (S.live j a b)) (λ e. rw (e, old_new) was);
           moved = moved';
-          marks-left = λ r l. m-old r (λ e. omega arith) ∙ S.marks-left r (omega arith);
-          records-left = λ i l. record-old i (λ e. omega (arith, S.few)) ∙ S.records-left i (omega arith);
+          marks_left = λ r l. m_old r (λ e. omega arith) ∙ S.marks_left r (omega arith);
+          records_left = λ i l. record_old i (λ e. omega (arith, S.few)) ∙ S.records_left i (omega arith);
         }
 
 -- ---- as the code has it
 
-lows : (s : Store) (used : ℕ) → Shape s used → (i : ℕ) → i < used → ((recAt s i).prev ≤ i) × ((recAt s i).kept ≤ i)
-unfolding recAt
-lows s used sh i l = (sh.prev-low i l, sh.kept_low i l)
+lows : (s : Store) (used : ℕ) → Shape s used → (i : ℕ) → i < used → ((rec_at s i).prev ≤ i) × ((rec_at s i).kept ≤ i)
+unfolding rec_at
+lows s used sh i l = (sh.prev_low i l, sh.kept_low i l)
 
 module _ (s : Store) (k n : ℕ) (few : n ≤ k) where
-  pub one-stays : newOf s.records (k + 1) ≡ 0 → SlidOne s s k n n
-  one-stays h = record { few = omega arith; next = λ s₀ used lt sh S. rw (add-one k) (slid-skip s₀ s k n S (rw (← add-one k) h)) }
+  pub one_stays : new_of s.records (k + 1) ≡ 0 → SlidOne s s k n n
+  one_stays h = record { few = omega arith; next = λ s₀ used lt sh S. rw (add-one k) (slid_skip s₀ s k n S (rw (← add-one k) h)) }
 
-  pub one-moves : (p q a b : ℕ) → (newOf s.records (k + 1) ≡ 0 → ⊥) → k * 8 + 8 ≤ length s.records → k * 2 + 2 ≤ length s.labels → k * 2 + 2 ≤ length s.gaps
-      → a ≡ prevAt s.records (k + 1 - 1) → b ≡ kept_at s.records (k + 1 - 1) → p ≡ newOf s.records a → q ≡ newOf s.records b → (s' : Store) → s' ≡ afterMove s k n p q → SlidOne s s' k n (n + 1)
-  unfolding recAt
-  one-moves p q a b hit rr rl rg ea eb ep eq s' is =
+  pub one_moves : (p q a b : ℕ) → (new_of s.records (k + 1) ≡ 0 → ⊥) → k * 8 + 8 ≤ length s.records → k * 2 + 2 ≤ length s.labels → k * 2 + 2 ≤ length s.gaps
+      → a ≡ prev_at s.records (k + 1 - 1) → b ≡ kept_at s.records (k + 1 - 1) → p ≡ new_of s.records a → q ≡ new_of s.records b → (s' : Store) → s' ≡ after_move s k n p q → SlidOne s s' k n (n + 1)
+  unfolding rec_at
+  one_moves p q a b hit rr rl rg ea eb ep eq s' is =
       record {
         few = omega arith;
         next = λ s₀ used lt sh S.
             let back : k + 1 - 1 ≡ k = omega arith in
-            let w : Marked s.records (suc k) = omega (arith, ap (newOf s.records) (add-one k), hit) in
-            let ip : p ≡ newOf s.records (prevAt s.records k) = ep ∙ ap (newOf s.records) (ea ∙ ap (prevAt s.records) back) in
-            let iq : q ≡ newOf s.records (kept_at s.records k) = eq ∙ ap (newOf s.records) (eb ∙ ap (kept_at s.records) back) in
-            rw (is, ip, iq, add-one k, add-one n) (slid-more s₀ s k n S (λ i l. lows s₀ used sh i (omega arith)) w rr rl rg);
+            let w : Marked s.records (suc k) = omega (arith, ap (new_of s.records) (add-one k), hit) in
+            let ip : p ≡ new_of s.records (prev_at s.records k) = ep ∙ ap (new_of s.records) (ea ∙ ap (prev_at s.records) back) in
+            let iq : q ≡ new_of s.records (kept_at s.records k) = eq ∙ ap (new_of s.records) (eb ∙ ap (kept_at s.records) back) in
+            rw (is, ip, iq, add-one k, add-one n) (slid_more s₀ s k n S (λ i l. lows s₀ used sh i (omega arith)) w rr rl rg);
       }
 
 -- the next record is as it was
-pub next_low : (s s' : Store) (used k n : ℕ) → Slid s s' k n → Shape s used → k < used → (prevAt s'.records k ≤ k) × (kept_at s'.records k ≤ k)
-unfolding recAt
+pub next_low : (s s' : Store) (used k n : ℕ) → Slid s s' k n → Shape s used → k < used → (prev_at s'.records k ≤ k) × (kept_at s'.records k ≤ k)
+unfolding rec_at
 next_low s s' used k n S sh l =
-    let e : recAt s' k ≡ recAt s k = S.records-left k (omega arith) in
-    (rw (ap (λ (r : Rec). r.prev) e) (sh.prev-low k l), rw (ap (λ (r : Rec). r.kept) e) (sh.kept_low k l))
+    let e : rec_at s' k ≡ rec_at s k = S.records_left k (omega arith) in
+    (rw (ap (λ (r : Rec). r.prev) e) (sh.prev_low k l), rw (ap (λ (r : Rec). r.kept) e) (sh.kept_low k l))

@@ -4,12 +4,12 @@ use Rattle.std.proofs.Common.{sym, ap, ◌∙◌, arith}
 use Rattle.lists.specs.Tests.{case}
 use Rattle.lists.specs.Lists.{◌∈◌}
 use Rattle.model.specs.Path.{Path}
-use Rattle.tokens.specs.Layout.{held_at, seqAt, phoneAt, requeuedAt}
-use Rattle.records.specs.History.{History, historyOf}
+use Rattle.tokens.specs.Layout.{held_at, seq_at, phone_at, requeued_at}
+use Rattle.records.specs.History.{History, history_of}
 use Rattle.records.specs.Layout.{Store}
 use Rattle.records.specs.Stands.{Stands}
 use Rattle.records.specs.Shape.{Shape}
-use Rattle.compaction.specs.Marks.{newOf, Root}
+use Rattle.compaction.specs.Marks.{new_of, Root}
 use Rattle.compaction.specs.Count.{Known, AllLive, Covers, Tight}
 
 -- The tokens of the first `places` places and the hand hold records. It speaks of no history.
@@ -22,16 +22,16 @@ pub record Holds (s : Store) (tk : List ℕ) (places used x : ℕ) : Type 0 wher
 
 -- of the first n places what is held may differ, and nothing else
 pub record SameTokens (tk tk' : List ℕ) (n : ℕ) : Type 0 where
-  pub seq : (p : ℕ) → seqAt tk' p ≡ seqAt tk p
-  pub phone : (p : ℕ) → phoneAt tk' p ≡ phoneAt tk p
-  pub requeued : (p : ℕ) → requeuedAt tk' p ≡ requeuedAt tk p
+  pub seq : (p : ℕ) → seq_at tk' p ≡ seq_at tk p
+  pub phone : (p : ℕ) → phone_at tk' p ≡ phone_at tk p
+  pub requeued : (p : ℕ) → requeued_at tk' p ≡ requeued_at tk p
   pub beyond : (p : ℕ) → n ≤ p → held_at tk' p ≡ held_at tk p
 
 -- the first n places hold records by their new numbers
 pub record Renumbered (rs tk tk' : List ℕ) (n : ℕ) : Type 0 where
   pub others : SameTokens tk tk' n
   pub none : (p : ℕ) → held_at tk p ≡ 0 → held_at tk' p ≡ 0
-  pub held : (p r : ℕ) → p < n → held_at tk p ≡ suc r → held_at tk' p ≡ suc (newOf rs r)
+  pub held : (p r : ℕ) → p < n → held_at tk p ≡ suc r → held_at tk' p ≡ suc (new_of rs r)
 
 -- The records carried over, in their order: `old j` is the number that record j had, and record j stands for what that one stood for. The tokens and the hand hold the records
 -- that they held.
@@ -65,12 +65,12 @@ module _ (s s' : Store) (tk tk' : List ℕ) (places used used' x x' : ℕ) (c : 
   within p l zero e = omega (arith, c.none p e)
   within p l (suc r) e = let (r', d, b, o) = c.held p r l e in omega arith
 
-  pub holds-again : Holds s tk places used x → length tk' ≡ length tk → Holds s' tk' places used' x'
-  holds-again h e = record { shape = c.shape; few = omega (arith, h.few, c.few); room = omega (arith, h.room); held = λ p l. within p l (held_at tk p) refl; number = c.number.0 }
+  pub holds_again : Holds s tk places used x → length tk' ≡ length tk → Holds s' tk' places used' x'
+  holds_again h e = record { shape = c.shape; few = omega (arith, h.few, c.few); room = omega (arith, h.room); held = λ p l. within p l (held_at tk p) refl; number = c.number.0 }
 
   -- paths of roots are known by their new numbers
-  pub known-again : (h : ℕ → History) (ps : List Path) → ((p : Path) → p ∈ ps → (r : ℕ) × Root tk places x r × (h r ≡ historyOf p)) → Known (λ j. h (c.old j)) used' ps
-  known-again h ps of-roots p i =
+  pub known_again : (h : ℕ → History) (ps : List Path) → ((p : Path) → p ∈ ps → (r : ℕ) × Root tk places x r × (h r ≡ history_of p)) → Known (λ j. h (c.old j)) used' ps
+  known_again h ps of-roots p i =
       let (r, w, e) = of-roots p i in
       case w
       (λ q.

@@ -3,10 +3,10 @@
 ghost use Rattle.std.specs.Prelude.{◌≡◌, ℕ, ◌+◌, ◌-◌, ◌*◌, ◌≤◌, ◌<◌, pos, length};
 ghost use Rattle.std.specs.Float.{nan};
 ghost use Rattle.tokens.specs.Layout.{held_at};
-ghost use Rattle.records.specs.Layout.{store, prevAt, kept_at};
+ghost use Rattle.records.specs.Layout.{store, prev_at, kept_at};
 ghost use Rattle.records.specs.Shape.{Shape};
-ghost use Rattle.compaction.specs.Marks.{newOf, Marked, Held, Root, Reach, Rooted, Cleared, MarksPut, Named, LiveMarked};
-ghost use Rattle.compaction.specs.Slide.{movedNumbers, movedPair, Slid, SlidOne};
+ghost use Rattle.compaction.specs.Marks.{new_of, Marked, Held, Root, Reach, Rooted, Cleared, MarksPut, Named, LiveMarked};
+ghost use Rattle.compaction.specs.Slide.{moved_numbers, moved_pair, Slid, SlidOne};
 ghost use Rattle.compaction.specs.Carried.{Holds, Renumbered, Compacted, RoomMade};
 
 use records::{kept_of, prev_of};
@@ -15,7 +15,7 @@ use tokens::has_token;
 // The mark of a record; 0 is none and has none.
 fn new_number(records: &[u32], r: u32) -> u32
     requires { r * 8 ≤ length records.now }
-    ensures { result ≡ newOf records.now r }
+    ensures { result ≡ new_of records.now r }
 {
     if r == 0 {
         return 0;
@@ -61,7 +61,7 @@ fn mark_held(records: &mut [u32], tokens: &[u32], places: u32)
 
 // A marked record marks what it names: the one before it, and the newest of its kept history.
 fn hand_on(records: &mut [u32], r: u32)
-    requires { (0 < r) × (r * 8 ≤ length records.old) × (prevAt records.old (r - 1) < r) × (kept_at records.old (r - 1) < r) }
+    requires { (0 < r) × (r * 8 ≤ length records.old) × (prev_at records.old (r - 1) < r) × (kept_at records.old (r - 1) < r) }
     ensures { MarksPut (Named records.old r) records.old records.new }
 {
     if new_number(records, r) == 0 {
@@ -75,7 +75,7 @@ fn hand_on(records: &mut [u32], r: u32)
 
 // Marks all that the marked records reach. What a record names has a lower number, so one descending turn does it.
 fn spread(records: &mut [u32], used: u32)
-    requires { (used * 8 ≤ length records.old) × ((k : ℕ) → k < used → prevAt records.old k ≤ k) × ((k : ℕ) → k < used → kept_at records.old k ≤ k) }
+    requires { (used * 8 ≤ length records.old) × ((k : ℕ) → k < used → prev_at records.old k ≤ k) × ((k : ℕ) → k < used → kept_at records.old k ≤ k) }
     ensures { MarksPut (Reach records.old used (Marked records.old)) records.old records.new }
 {
     let mut k = used;
@@ -99,7 +99,7 @@ fn mark_live(records: &mut [u32], tokens: &[u32], places: u32, used: u32, x: u32
 // Record number k + 1 becomes record number n + 1, with other numbers for what it names, and its mark says so.
 fn move_numbers(records: &mut [u32], k: u32, n: u32, prev: u32, kept: u32)
     requires { (n ≤ k) × (k < 1048576) × (k * 8 + 8 ≤ length records.old) }
-    ensures { records.new ≡ movedNumbers records.old k n prev kept }
+    ensures { records.new ≡ moved_numbers records.old k n prev kept }
 {
     let i = k as usize * 8;
     let frame = records[i + 1];
@@ -120,7 +120,7 @@ fn move_numbers(records: &mut [u32], k: u32, n: u32, prev: u32, kept: u32)
 
 fn move_labels(labels: &mut [i32], k: u32, n: u32)
     requires { (n ≤ k) × (k * 2 + 2 ≤ length labels.old) }
-    ensures { labels.new ≡ movedPair (pos 0) labels.old k n }
+    ensures { labels.new ≡ moved_pair (pos 0) labels.old k n }
 {
     let i = k as usize * 2;
     let word = labels[i];
@@ -132,7 +132,7 @@ fn move_labels(labels: &mut [i32], k: u32, n: u32)
 
 fn move_gaps(gaps: &mut [f32], k: u32, n: u32)
     requires { (n ≤ k) × (k * 2 + 2 ≤ length gaps.old) }
-    ensures { gaps.new ≡ movedPair nan gaps.old k n }
+    ensures { gaps.new ≡ moved_pair nan gaps.old k n }
 {
     let i = k as usize * 2;
     let cost = gaps[i];
@@ -144,7 +144,7 @@ fn move_gaps(gaps: &mut [f32], k: u32, n: u32)
 
 // Record number k + 1 moves down behind the first n, where it is marked: how many stay so far.
 fn slide_one(records: &mut [u32], labels: &mut [i32], gaps: &mut [f32], k: u32, n: u32) -> u32
-    requires n_le_k { (n ≤ k) × (k < 1048576) × (prevAt records.old k ≤ k) × (kept_at records.old k ≤ k) }
+    requires n_le_k { (n ≤ k) × (k < 1048576) × (prev_at records.old k ≤ k) × (kept_at records.old k ≤ k) }
     requires k_in_bounds { (k * 8 + 8 ≤ length records.old) × (k * 2 + 2 ≤ length labels.old) × (k * 2 + 2 ≤ length gaps.old) }
     ensures { SlidOne (store records.old labels.old gaps.old) (store records.new labels.new gaps.new) k n result }
 {

@@ -5,15 +5,15 @@ use Rattle.lists.specs.Lists.{◌∈◌}
 use Rattle.lists.specs.Count.{Nodup}
 use Rattle.real32.specs.Small.{tame}
 use Rattle.model.specs.Basics.{◌≼◌, ◌⊕◌, ok, Refusal}
-use Rattle.model.specs.Graph.{Graph, Arc, NO-STATE, isFinal, finalWeight}
+use Rattle.model.specs.Graph.{Graph, Arc, no_state, is_final, final_weight}
 use Rattle.model.specs.Path.{Token, Limits}
 use Rattle.model.specs.Cutoff.{Config}
 use Rattle.model.specs.Arrive.{Work}
-use Rattle.model.specs.Passes.{emittingPass, nonemittingPass, State, during, startWork}
-use Rattle.model.specs.Reads.{Ranked, useFinals, ranked as rankedTokens, Traced, Group}
+use Rattle.model.specs.Passes.{emitting_pass, nonemitting_pass, State, during, start_work}
+use Rattle.model.specs.Reads.{Ranked, use_finals, ranked as ranked_tokens, Traced, Group}
 use Rattle.model.specs.Readings.{Below, below, readings as listing}
-use Rattle.model.specs.Calls.{Sizes, Read, bestPathRead, alternativesRead, readingsRead, relativeCostRead, numActiveRead, framesDecodedRead, Call, startCall, frameCall, keepCall, readCall, Reading, Answer, refusalAnswer, doneAnswer, pathAnswer, pathsAnswer, readingsAnswer, countAnswer, costAnswer}
-use Rattle.copy_laws.specs.Walks.{emitted, Walk, wordsOn, sum_of}
+use Rattle.model.specs.Calls.{Sizes, Read, best_path_read, alternatives_read, readings_read, relative_cost_read, num_active_read, frames_decoded_read, Call, start_call, frame_call, keep_call, read_call, Reading, Answer, refusal_answer, done_answer, path_answer, paths_answer, readings_answer, count_answer, cost_answer}
+use Rattle.copy_laws.specs.Walks.{emitted, Walk, words_on_lem, sum_of}
 use Rattle.copy_laws.specs.Routes.{along, arcs}
 use Rattle.copy_laws.specs.Tables.{At}
 use Rattle.copy_laws.specs.Sums.{Signed}
@@ -23,9 +23,9 @@ use Rattle.copy_laws.specs.Ranks.{Sure}
 use Rattle.copy_laws.specs.Bounds.{Bounded}
 use Rattle.copy_laws.specs.Costs.{SureReading}
 use Rattle.copy_laws.specs.Relative.{SureOrInfinite}
-use Rattle.copy_laws.specs.Stamps.{wordFramesOn}
-use Rattle.copy_laws.specs.Segments.{Tiles, spelled, phonesOn}
-use Rattle.copy_laws.specs.Points.{Point, fittedPoint, reached}
+use Rattle.copy_laws.specs.Stamps.{word_frames_on}
+use Rattle.copy_laws.specs.Segments.{Tiles, spelled, phones_on}
+use Rattle.copy_laws.specs.Points.{Point, fitted_point, reached}
 use Rattle.copy_laws.specs.Cuts.{HasCut}
 
 -- ---- of an answer
@@ -36,24 +36,24 @@ pub record OnePath (g : Graph) (pt : Point) (finals : Bool) (ws : List ℤ) : Ty
   pub end : ℕ
   pub walk : Walk g pt.heard route end
   pub frames : emitted route ≡ pt.state.frames
-  pub final : finals ≡ true → isFinal g end ≡ true
-  pub words : ws ≡ wordsOn route
+  pub final : finals ≡ true → is_final g end ≡ true
+  pub words : ws ≡ words_on_lem route
 
 -- a traced path: each word has the frame of its arc
 pub record OneTrace (g : Graph) (pt : Point) (finals : Bool) (tr : Traced) : Type 0 where
   pub path : OnePath g pt finals tr.words
-  pub stamps : tr.wordFrames ≡ wordFramesOn path.route
+  pub stamps : tr.word_frames ≡ word_frames_on path.route
 
 -- a token's own path, as the best path and every alternative is
 pub record Own (g : Graph) (pt : Point) (finals : Bool) (tr : Traced) : Type 0 where
   pub trace : OneTrace g pt finals tr
   -- "phone segments are nonempty, abut, and run from 0 to the frame count (none at 0)"
   pub tiles : Tiles 0 pt.state.frames tr.phones
-  pub none-at-0 : pt.state.frames ≡ 0 → tr.phones ≡ []
+  pub none_at_0 : pt.state.frames ≡ 0 → tr.phones ≡ []
   -- and frame by frame they are the phones of the path's emitting arcs
-  pub spells : spelled tr.phones ≡ phonesOn g trace.path.route
+  pub spells : spelled tr.phones ≡ phones_on g trace.path.route
   -- "cost is its sum in the same order with the same offsets and rounding" where finals do not count; where they do, with the final weight
-  pub sum : tr.cost ≡ cond finals (sum_of g pt.heard trace.path.route ⊕ finalWeight g trace.path.end) (sum_of g pt.heard trace.path.route)
+  pub sum : tr.cost ≡ cond finals (sum_of g pt.heard trace.path.route ⊕ final_weight g trace.path.end) (sum_of g pt.heard trace.path.route)
 
 -- "Where finals do not count, the latest start was accepted and no cutoff has dropped anything in it or since": Uncut is that no cutoff has.
 pub record Best (g : Graph) (pt : Point) (Uncut : Type 0) (finals : Bool) (tr : Traced) : Type 0 where
@@ -75,44 +75,44 @@ pub record Readings (g : Graph) (pt : Point) (finals : Bool) (rs : List Reading)
   pub each : (r : Reading) → r ∈ rs → OnePath g pt finals r.words
   pub distinct : Nodup (map (λ (r : Reading). r.words) rs)
   pub traced : (tr : Traced) → tr ∈ ts → OneTrace g pt finals tr
-  pub traced-distinct : Nodup (map (λ (tr : Traced). tr.words) ts)
+  pub traced_distinct : Nodup (map (λ (tr : Traced). tr.words) ts)
 
 -- no cutoff has dropped anything in the latest start or since: no call among these has left a token or a total out for one
 abbrev pub NothingCut : Graph → Config → List (Call × ℕ) → Type 0
-NothingCut g c ks = HasCut g c (fittedPoint g) ks → ⊥
+NothingCut g c ks = HasCut g c (fitted_point g) ks → ⊥
 
 -- What the answer to a call says that comes after these calls: a refusal, or what the call gives back.
 pub data Says (g : Graph) (c : Config) (ks : List (Call × ℕ)) : Call → Answer → Type 0 where
-  saysRefused : {k : Call} (r : Refusal) → Says g c ks k (refusalAnswer r)
-  saysStarted : Says g c ks startCall doneAnswer
-  saysHeard : {ls : List Float} → Says g c ks (frameCall ls) doneAnswer
-  saysKept : {m : Option Float} → Says g c ks (keepCall m) doneAnswer
-  saysBest : {f : Bool} {z : Sizes} {o : Option Traced} → BestOrNone g (reached g c ks) (NothingCut g c ks) (useFinals g (reached g c ks).state f) o → Says g c ks (readCall (bestPathRead f z)) (pathAnswer o)
-  saysAlternatives : {f : Bool} {max : ℕ} {z : Sizes} {ts : List Traced} → Alternatives g (reached g c ks) (useFinals g (reached g c ks).state f) ts → Says g c ks (readCall (alternativesRead f max z)) (pathsAnswer ts)
-  saysReadings : {f : Bool} {n max : ℕ} {z : Sizes} {rs : List Reading} {ts : List Traced} → Readings g (reached g c ks) (useFinals g (reached g c ks).state f) rs ts → Says g c ks (readCall (readingsRead f n max z)) (readingsAnswer rs ts)
+  says_refused : {k : Call} (r : Refusal) → Says g c ks k (refusal_answer r)
+  says_started : Says g c ks start_call done_answer
+  says_heard : {ls : List Float} → Says g c ks (frame_call ls) done_answer
+  says_kept : {m : Option Float} → Says g c ks (keep_call m) done_answer
+  says_best : {f : Bool} {z : Sizes} {o : Option Traced} → BestOrNone g (reached g c ks) (NothingCut g c ks) (use_finals g (reached g c ks).state f) o → Says g c ks (read_call (best_path_read f z)) (path_answer o)
+  says_alternatives : {f : Bool} {max : ℕ} {z : Sizes} {ts : List Traced} → Alternatives g (reached g c ks) (use_finals g (reached g c ks).state f) ts → Says g c ks (read_call (alternatives_read f max z)) (paths_answer ts)
+  says_readings : {f : Bool} {n max : ℕ} {z : Sizes} {rs : List Reading} {ts : List Traced} → Readings g (reached g c ks) (use_finals g (reached g c ks).state f) rs ts → Says g c ks (read_call (readings_read f n max z)) (readings_answer rs ts)
   -- +∞, or finite and no −0
-  saysCost : {x : Float} → SureOrInfinite 102 x → Says g c ks (readCall relativeCostRead) (costAnswer x)
-  saysActive : (n : ℕ) → Says g c ks (readCall numActiveRead) (countAnswer n)
+  says_cost : {x : Float} → SureOrInfinite 102 x → Says g c ks (read_call relative_cost_read) (cost_answer x)
+  says_active : (n : ℕ) → Says g c ks (read_call num_active_read) (count_answer n)
   -- "Frames decoded, the frame count, are those accepted since the latest start."
-  saysDecoded : {n : ℕ} → n ≡ length (reached g c ks).heard → Says g c ks (readCall framesDecodedRead) (countAnswer n)
+  says_decoded : {n : ℕ} → n ≡ length (reached g c ks).heard → Says g c ks (read_call frames_decoded_read) (count_answer n)
 
 -- ---- of a refusal
 
 -- document 01's numbers that a read can be refused by: output too short, more than 64 asked for, and 15 of the reading list
-abbrev pub readRefusals : Read → List ℕ
-readRefusals (bestPathRead f z) = 11 ∷ []
-readRefusals (alternativesRead f max z) = 6 ∷ 11 ∷ []
-readRefusals (readingsRead f n max z) = 6 ∷ 15 ∷ 11 ∷ []
-readRefusals relativeCostRead = []
-readRefusals numActiveRead = []
-readRefusals framesDecodedRead = []
+abbrev pub read_refusals : Read → List ℕ
+read_refusals (best_path_read f z) = 11 ∷ []
+read_refusals (alternatives_read f max z) = 6 ∷ 11 ∷ []
+read_refusals (readings_read f n max z) = 6 ∷ 15 ∷ 11 ∷ []
+read_refusals relative_cost_read = []
+read_refusals num_active_read = []
+read_refusals frames_decoded_read = []
 
 -- and a call
-abbrev pub refusalsOf : Call → List ℕ
-refusalsOf startCall = 12 ∷ 13 ∷ 14 ∷ []
-refusalsOf (frameCall ls) = 10 ∷ 8 ∷ 9 ∷ 12 ∷ 13 ∷ 14 ∷ []
-refusalsOf (keepCall m) = 6 ∷ []
-refusalsOf (readCall r) = readRefusals r
+abbrev pub refusals_of : Call → List ℕ
+refusals_of start_call = 12 ∷ 13 ∷ 14 ∷ []
+refusals_of (frame_call ls) = 10 ∷ 8 ∷ 9 ∷ 12 ∷ 13 ∷ 14 ∷ []
+refusals_of (keep_call m) = 6 ∷ []
+refusals_of (read_call r) = read_refusals r
 
 -- ---- of the copy itself
 
@@ -125,8 +125,8 @@ pub record Run (g : Graph) (pt : Point) (s : ℕ) (t : Token) : Type 0 where
 
 -- the queue of the next start or frame is the Rust's loop: the fuel is no limit
 pub record QueueLoops (g : Graph) (c : Config) (l : Limits) (st : State) : Type 0 where
-  pub start : eqb g.start NO-STATE ≡ false → Runs (during g l st 0 []) (startWork g c) (nonemittingPass (during g l st 0 []) (startWork g c))
-  pub frame : (ls : List Float) (w : Work) → emittingPass (during g l st st.frames st.table) c ls st.table st.seq st.fresh ≡ ok w → Runs (during g l st st.frames st.table) w (nonemittingPass (during g l st st.frames st.table) w)
+  pub start : eqb g.start no_state ≡ false → Runs (during g l st 0 []) (start_work g c) (nonemitting_pass (during g l st 0 []) (start_work g c))
+  pub frame : (ls : List Float) (w : Work) → emitting_pass (during g l st st.frames st.table) c ls st.table st.seq st.fresh ≡ ok w → Runs (during g l st st.frames st.table) w (nonemitting_pass (during g l st st.frames st.table) w)
 
 -- no cost, graph sum, difference or rank is a NaN, an infinity or −0; the graph sum and the rank of what takes kept paths, as long as these are fewer than 2 ^ 24
 pub record SumsSure (g : Graph) (st : State) : Type 0 where
@@ -138,6 +138,6 @@ pub record SumsSure (g : Graph) (st : State) : Type 0 where
   -- the sums of these below a path: in cost from 0 to the margin, in graph one step of 2 ^ 102 for each kept path taken
   pub belows : (margin : Float) → st.margin ≡ some margin → (s : ℕ) (t : Token) → At st.table s t → (cap : ℕ) (b : Below) → b ∈ below margin cap t.path → Bounded margin b
   -- a ranked token's
-  pub ranked : (f : Bool) (r : Ranked) → r ∈ rankedTokens g st f → Sure 102 r.rank × Sure 101 r.cost
+  pub ranked : (f : Bool) (r : Ranked) → r ∈ ranked_tokens g st f → Sure 102 r.rank × Sure 101 r.cost
   -- a listed reading's; the rank of a kept one, as long as it takes fewer than 2 ^ 24 kept paths
   pub listed : (f : Bool) (n : ℕ) (x : Group) → x ∈ (listing g st f n).groups → SureReading x

@@ -4,76 +4,76 @@ use Rattle.std.proofs.Common.{sym, ◌∙◌, subst}
 use Rattle.std.proofs.Math.Option.{Option, none, some}
 use mathlib.Core.List.Memᴰ.{head as here}
 use mathlib.Core.List.Memᴰ.{tail as there}
-use Rattle.lists.specs.Lists.{◌∈◌, sortBy}
-use Rattle.lists.specs.Members.{take-from, map-from, map-to}
-use Rattle.lists.specs.Firsts.{firsts-are}
+use Rattle.lists.specs.Lists.{◌∈◌, sort_by}
+use Rattle.lists.specs.Members.{take_from, map_from, map_to}
+use Rattle.lists.specs.Firsts.{firsts_are}
 use Rattle.lists.specs.Count.{Nodup}
 use Rattle.model.specs.Graph.{Graph}
 use Rattle.model.specs.Path.{same_words}
 use Rattle.model.specs.Passes.{State}
-use Rattle.model.specs.Reads.{ranked, Traced, trace, Group, ownGroup, grouped, traceGroups, alternatives}
-use Rattle.model.specs.Readings.{readOrder, merged, Readings, expanded, plain, readings}
-use Rattle.copy_laws.specs.Labels.{words-alike, words_same}
-use Rattle.copy_laws.specs.Minima.{apart-nodup}
-use Rattle.copy_laws.specs.Walks.{wordsOn}
-use Rattle.copy_laws.specs.Routes.{along, trace-words}
-use Rattle.copy_laws.specs.Listed.{grouped-listed, readings-listed}
+use Rattle.model.specs.Reads.{ranked, Traced, trace, Group, own_group, grouped, trace_groups, alternatives}
+use Rattle.model.specs.Readings.{read_order, merged, Readings, expanded, plain, readings}
+use Rattle.copy_laws.specs.Labels.{words_alike, words_same}
+use Rattle.copy_laws.specs.Minima.{apart_nodup}
+use Rattle.copy_laws.specs.Walks.{words_on_lem}
+use Rattle.copy_laws.specs.Routes.{along, trace_words}
+use Rattle.copy_laws.specs.Listed.{grouped_listed, readings_listed_lem}
 
 module _ {A : Type 0} (f : A → List ℤ) where
-  abbrev pub sameOf : A → A → Bool
-  sameOf a b = same_words (f a) (f b)
+  abbrev pub same_of : A → A → Bool
+  same_of a b = same_words (f a) (f b)
 
-  pub take-nodup : (n : ℕ) (xs : List A) → Nodup (map f xs) → Nodup (map f (take n xs))
-  take-nodup zero [] p = tt
-  take-nodup zero (x ∷ xs) p = tt
-  take-nodup (suc n) [] p = tt
-  take-nodup (suc n) (x ∷ xs) p = (λ m. let (y, k, e) = map-from f (take n xs) (f x) m in p.0 (subst (λ (w : List ℤ). w ∈ map f xs) (sym e) (map-to f xs y (take-from n xs y k))), take-nodup n xs p.1)
+  pub take_nodup : (n : ℕ) (xs : List A) → Nodup (map f xs) → Nodup (map f (take n xs))
+  take_nodup zero [] p = tt
+  take_nodup zero (x ∷ xs) p = tt
+  take_nodup (suc n) [] p = tt
+  take_nodup (suc n) (x ∷ xs) p = (λ m. let (y, k, e) = map_from f (take n xs) (f x) m in p.0 (subst (λ (w : List ℤ). w ∈ map f xs) (sym e) (map_to f xs y (take_from n xs y k))), take_nodup n xs p.1)
 
 -- ---- the lists
 
-abbrev pub groupWords : List Group → List (List ℤ)
-groupWords = map (λ (x : Group). x.words)
+abbrev pub group_words : List Group → List (List ℤ)
+group_words = map (λ (x : Group). x.words)
 
-pub grouped-distinct : (g : Graph) (st : State) (f : Bool) → Nodup (groupWords (grouped g st f))
+pub grouped_distinct : (g : Graph) (st : State) (f : Bool) → Nodup (group_words (grouped g st f))
 unfolding grouped
-grouped-distinct g st f = apart-nodup (λ (x : Group). x.words) same_words words_same words-alike (grouped g st f) (firsts-are (sameOf (λ (x : Group). x.words)) [] (map ownGroup (ranked g st f))).apart
+grouped_distinct g st f = apart_nodup (λ (x : Group). x.words) same_words words_same words_alike (grouped g st f) (firsts_are (same_of (λ (x : Group). x.words)) [] (map own_group (ranked g st f))).apart
 
-merged-distinct : (own kept : List Group) → Nodup (groupWords (merged own kept))
-merged-distinct [] kept = tt
-merged-distinct (x ∷ own) kept =
-    let d = firsts-are (sameOf (λ (y : Group). y.words)) (x ∷ []) (sortBy readOrder (own ++ kept)) in
-    apart-nodup (λ (y : Group). y.words) same_words words_same words-alike (merged (x ∷ own) kept) (λ y m. d.unseen y m x (here refl), d.apart)
+merged_distinct : (own kept : List Group) → Nodup (group_words (merged own kept))
+merged_distinct [] kept = tt
+merged_distinct (x ∷ own) kept =
+    let d = firsts_are (same_of (λ (y : Group). y.words)) (x ∷ []) (sort_by read_order (own ++ kept)) in
+    apart_nodup (λ (y : Group). y.words) same_words words_same words_alike (merged (x ∷ own) kept) (λ y m. d.unseen y m x (here refl), d.apart)
 
-pub readings-distinct : (g : Graph) (st : State) (f : Bool) (n : ℕ) → Nodup (groupWords (readings g st f n).groups)
+pub readings_distinct : (g : Graph) (st : State) (f : Bool) (n : ℕ) → Nodup (group_words (readings g st f n).groups)
 unfolding readings expanded
-readings-distinct g st f zero = grouped-distinct g st f
-readings-distinct g st f (suc n) = go st.margin
+readings_distinct g st f zero = grouped_distinct g st f
+readings_distinct g st f (suc n) = go st.margin
   where
-    go : (o : Option Float) → Nodup (groupWords (elim o as (λ y. Readings) [ none ↦ plain g st f | some m ↦ expanded g st f (suc n) m ]).groups)
-    go none = grouped-distinct g st f
-    go (some m) = merged-distinct (grouped g st f) _
+    go : (o : Option Float) → Nodup (group_words (elim o as (λ y. Readings) [ none ↦ plain g st f | some m ↦ expanded g st f (suc n) m ]).groups)
+    go none = grouped_distinct g st f
+    go (some m) = merged_distinct (grouped g st f) _
 
 -- ---- their traces
 
-abbrev pub tracedWords : List Traced → List (List ℤ)
-tracedWords = map (λ (t : Traced). t.words)
+abbrev pub traced_words : List Traced → List (List ℤ)
+traced_words = map (λ (t : Traced). t.words)
 
 abbrev WordsRight : Group → Type 0
-WordsRight x = x.words ≡ wordsOn (along x.route x.token.path)
+WordsRight x = x.words ≡ words_on_lem (along x.route x.token.path)
 
-traces-say : (st : State) (xs : List Group) → ((x : Group) → x ∈ xs → WordsRight x) → tracedWords (map (λ (x : Group). trace st.frames x.route x.token.path x.cost) xs) ≡ groupWords xs
-traces-say st [] h = refl
-traces-say st (x ∷ xs) h =
-    let a : (trace st.frames x.route x.token.path x.cost).words ≡ x.words = trace-words st.frames x.route x.token.path x.cost ∙ sym (h x (here refl)) in
-    let b = traces-say st xs (λ y m. h y (there m)) in
+traces_say : (st : State) (xs : List Group) → ((x : Group) → x ∈ xs → WordsRight x) → traced_words (map (λ (x : Group). trace st.frames x.route x.token.path x.cost) xs) ≡ group_words xs
+traces_say st [] h = refl
+traces_say st (x ∷ xs) h =
+    let a : (trace st.frames x.route x.token.path x.cost).words ≡ x.words = trace_words st.frames x.route x.token.path x.cost ∙ sym (h x (here refl)) in
+    let b = traces_say st xs (λ y m. h y (there m)) in
     cc
 
-traces-distinct : (st : State) (max : ℕ) (xs : List Group) → ((x : Group) → x ∈ xs → WordsRight x) → Nodup (groupWords xs) → Nodup (tracedWords (traceGroups st max xs))
-traces-distinct st max xs h d = subst Nodup (sym (traces-say st (take max xs) (λ x m. h x (take-from max xs x m)))) (take-nodup (λ (x : Group). x.words) max xs d)
+traces_distinct : (st : State) (max : ℕ) (xs : List Group) → ((x : Group) → x ∈ xs → WordsRight x) → Nodup (group_words xs) → Nodup (traced_words (trace_groups st max xs))
+traces_distinct st max xs h d = subst Nodup (sym (traces_say st (take max xs) (λ x m. h x (take_from max xs x m)))) (take_nodup (λ (x : Group). x.words) max xs d)
 
-pub alternatives-distinct : (g : Graph) (st : State) (f : Bool) (max : ℕ) → Nodup (tracedWords (alternatives g st f max))
+pub alternatives_distinct : (g : Graph) (st : State) (f : Bool) (max : ℕ) → Nodup (traced_words (alternatives g st f max))
 unfolding alternatives
-alternatives-distinct g st f max = traces-distinct st max (grouped g st f) (λ x m. (grouped-listed g st f x m).words) (grouped-distinct g st f)
+alternatives_distinct g st f max = traces_distinct st max (grouped g st f) (λ x m. (grouped_listed g st f x m).words) (grouped_distinct g st f)
 
-pub reading-traces-distinct : (g : Graph) (st : State) (f : Bool) (n max : ℕ) → Nodup (tracedWords (traceGroups st max (readings g st f n).groups))
-reading-traces-distinct g st f n max = traces-distinct st max (readings g st f n).groups (λ x m. (readings-listed g st f n x m).words) (readings-distinct g st f n)
+pub reading_traces_distinct : (g : Graph) (st : State) (f : Bool) (n max : ℕ) → Nodup (traced_words (trace_groups st max (readings g st f n).groups))
+reading_traces_distinct g st f n max = traces_distinct st max (readings g st f n).groups (λ x m. (readings_listed_lem g st f n x m).words) (readings_distinct g st f n)

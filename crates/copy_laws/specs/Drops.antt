@@ -2,59 +2,59 @@
 use Rattle.std.specs.Prelude.{ℕ, zero, suc, Bool, true, false, ◌||◌, List, [], ◌∷◌, eqb, get_or, Float}
 use Rattle.std.proofs.Math.Option.{Option, none, some}
 use Rattle.model.specs.Basics.{◌≺◌, ◌≼◌, Outcome, ok, refused}
-use Rattle.model.specs.Graph.{Graph, Arc, NO-STATE, arcsOf}
+use Rattle.model.specs.Graph.{Graph, Arc, no_state, arcs_of}
 use Rattle.model.specs.Path.{Token, Table, Limits}
-use Rattle.model.specs.Cutoff.{Config, best, getCutoff}
-use Rattle.model.specs.Arrive.{Pass, emitting, nonemitting, takes, total, Here, Work, arrive, arriveAll}
-use Rattle.model.specs.Passes.{offset_of, look, emptyWork, emittingPass, pushFrom, popped, expand, fuel, State, during, startWork}
+use Rattle.model.specs.Cutoff.{Config, best, get_cutoff}
+use Rattle.model.specs.Arrive.{Pass, emitting, nonemitting, takes, total, Here, Work, arrive, arrive_all}
+use Rattle.model.specs.Passes.{offset_of, look, empty_work, emitting_pass, push_from, popped, expand, fuel, State, during, start_work}
 
 -- a test of what a step gives, where it is accepted
-abbrev pub onOk : {A : Type 0} → (A → Bool) → Outcome A → Bool
-onOk f (ok a) = f a
-onOk f (refused n) = false
+abbrev pub on_ok : {A : Type 0} → (A → Bool) → Outcome A → Bool
+on_ok f (ok a) = f a
+on_ok f (refused n) = false
 
 -- a total of these arcs is at or above the cutoff
-unfoldable pub dropsTotal : Here → Pass → Token → List Arc → Work → Bool
-dropsTotal h p t [] w = false
-dropsTotal h p t (a ∷ rest) w = elim (takes p a) [ true ↦ (w.cutoff ≼ total h.graph p t a) || onOk (dropsTotal h p t rest) (arrive h p t a w) | false ↦ dropsTotal h p t rest w ]
+unfoldable pub drops_total : Here → Pass → Token → List Arc → Work → Bool
+drops_total h p t [] w = false
+drops_total h p t (a ∷ rest) w = elim (takes p a) [ true ↦ (w.cutoff ≼ total h.graph p t a) || on_ok (drops_total h p t rest) (arrive h p t a w) | false ↦ drops_total h p t rest w ]
 
 -- ---- the emitting pass: a token above its cutoff, or a total of a token's arcs
 
-unfoldable pub dropsEmit : Here → Pass → (cutoff : Float) → ℕ → Table → Work → Bool
-dropsEmit h p cut s [] w = false
-dropsEmit h p cut s (none ∷ ts) w = dropsEmit h p cut (suc s) ts w
-dropsEmit h p cut s (some t ∷ ts) w =
+unfoldable pub drops_emit : Here → Pass → (cutoff : Float) → ℕ → Table → Work → Bool
+drops_emit h p cut s [] w = false
+drops_emit h p cut s (none ∷ ts) w = drops_emit h p cut (suc s) ts w
+drops_emit h p cut s (some t ∷ ts) w =
     elim (cut ≺ t.cost) [
       | true ↦ true
-      | false ↦ dropsTotal h p t (arcsOf h.graph s) w || onOk (dropsEmit h p cut (suc s) ts) (arriveAll h p t (arcsOf h.graph s) w)
+      | false ↦ drops_total h p t (arcs_of h.graph s) w || on_ok (drops_emit h p cut (suc s) ts) (arrive_all h p t (arcs_of h.graph s) w)
     ]
 
 -- the first look drops nothing
-unfoldable pub dropsEmitting : Here → Config → List Float → Table → (seq fresh : ℕ) → Bool
-dropsEmitting h c ls ts q n =
-    let cut = getCutoff c ts in
-    onOk (λ next. dropsEmit h (emitting ls (offset_of (best ts)) cut.adaptive) cut.cutoff 0 ts (emptyWork h.graph q n next)) (look h.graph ls cut.adaptive (best ts))
+unfoldable pub drops_emitting : Here → Config → List Float → Table → (seq fresh : ℕ) → Bool
+drops_emitting h c ls ts q n =
+    let cut = get_cutoff c ts in
+    on_ok (λ next. drops_emit h (emitting ls (offset_of (best ts)) cut.adaptive) cut.cutoff 0 ts (empty_work h.graph q n next)) (look h.graph ls cut.adaptive (best ts))
 
 -- ---- the nonemitting pass: a popped token at or above the cutoff, or a total of its arcs
 
-unfoldable pub dropsPopped : Here → ℕ → Option Token → Work → Bool
-dropsPopped h s none w = false
-dropsPopped h s (some t) w = elim (w.cutoff ≼ t.cost) [ true ↦ true | false ↦ dropsTotal h nonemitting t (arcsOf h.graph s) w ]
+unfoldable pub drops_popped : Here → ℕ → Option Token → Work → Bool
+drops_popped h s none w = false
+drops_popped h s (some t) w = elim (w.cutoff ≼ t.cost) [ true ↦ true | false ↦ drops_total h nonemitting t (arcs_of h.graph s) w ]
 
-unfoldable pub dropsQueue : (fuel : ℕ) → Here → Work → Bool
-dropsQueue zero h w = false
-dropsQueue (suc n) h w =
-    elim w.queue [ [] ↦ false | s ∷ q ↦ dropsPopped h s (get_or w.table s none) (popped w q) || onOk (dropsQueue n h) (expand h s (get_or w.table s none) (popped w q)) ]
+unfoldable pub drops_queue : (fuel : ℕ) → Here → Work → Bool
+drops_queue zero h w = false
+drops_queue (suc n) h w =
+    elim w.queue [ [] ↦ false | s ∷ q ↦ drops_popped h s (get_or w.table s none) (popped w q) || on_ok (drops_queue n h) (expand h s (get_or w.table s none) (popped w q)) ]
 
-unfoldable pub dropsNonemitting : Here → Work → Bool
-dropsNonemitting h w = onOk (dropsQueue (fuel h.graph) h) (pushFrom h 0 w.table w)
+unfoldable pub drops_nonemitting : Here → Work → Bool
+drops_nonemitting h w = on_ok (drops_queue (fuel h.graph) h) (push_from h 0 w.table w)
 
 -- ---- a start, and a frame
 
-unfoldable pub dropsStart : Graph → Config → Limits → State → Bool
-dropsStart g c l st = elim (eqb g.start NO-STATE) [ true ↦ false | false ↦ dropsNonemitting (during g l st 0 []) (startWork g c) ]
+unfoldable pub drops_start : Graph → Config → Limits → State → Bool
+drops_start g c l st = elim (eqb g.start no_state) [ true ↦ false | false ↦ drops_nonemitting (during g l st 0 []) (start_work g c) ]
 
-unfoldable pub dropsFrame : Graph → Config → Limits → List Float → State → Bool
-dropsFrame g c l ls st =
+unfoldable pub drops_frame : Graph → Config → Limits → List Float → State → Bool
+drops_frame g c l ls st =
     let h = during g l st st.frames st.table in
-    dropsEmitting h c ls st.table st.seq st.fresh || onOk (dropsNonemitting h) (emittingPass h c ls st.table st.seq st.fresh)
+    drops_emitting h c ls st.table st.seq st.fresh || on_ok (drops_nonemitting h) (emitting_pass h c ls st.table st.seq st.fresh)

@@ -4,15 +4,15 @@ use Rattle.std.proofs.Common.{sym, ap, ◌∙◌}
 use mathlib.Core.List.{List, [], ◌∷◌, ◌++◌, append-nil, append_assoc, map, reverse, reverse-cons}
 use Rattle.model.specs.Basics.{eqℤ, nonzero}
 use Rattle.model.specs.Graph.{Graph, Arc}
-use Rattle.model.specs.Path.{Merge, Path, emptyPath, arcOn, branchOn, word, withWord, wordsBack, memℕ}
-use Rattle.model.specs.Reads.{Rec, changesAt, resume, recsOn, wordRecs, trace}
-use Rattle.copy_laws.specs.Walks.{Heard, Walk, wordsOn, words_append}
+use Rattle.model.specs.Path.{Merge, Path, empty_path, arc_on_lem, branch_on, word, with_word, words_back, memℕ}
+use Rattle.model.specs.Reads.{Rec, changes_at, resume, recs_on, word_recs, trace}
+use Rattle.copy_laws.specs.Walks.{Heard, Walk, words_on_lem, words_append}
 
 -- the arcs along a route
 unfoldable pub along : (route : List ℕ) → Path → List Arc
-along route emptyPath = []
-along route (arcOn x p) = along route p ++ (x.arc ∷ [])
-along route (branchOn m k p) = elim (memℕ m.number route) [ true ↦ along route k | false ↦ along route p ]
+along route empty_path = []
+along route (arc_on_lem x p) = along route p ++ (x.arc ∷ [])
+along route (branch_on m k p) = elim (memℕ m.number route) [ true ↦ along route k | false ↦ along route p ]
 
 -- branches apart: along no route
 abbrev pub arcs : Path → List Arc
@@ -26,19 +26,19 @@ Walks g fs p s = (route : List ℕ) → Walk g fs (along route p) s
 
 -- what records with a word tell
 abbrev pub told : {A : Type 0} → (Rec → A) → List Rec → List A
-told f rs = map f (wordRecs rs)
+told f rs = map f (word_recs rs)
 
 pub told-cons : {A : Type 0} (f : Rec → A) (r : Rec) (rs : List Rec) → told f (r ∷ rs) ≡ cond (nonzero r.word) (f r ∷ []) [] ++ told f rs
 told-cons f r rs = go (nonzero r.word)
   where
-    go : (b : Bool) → map f (cond b (r ∷ wordRecs rs) (wordRecs rs)) ≡ cond b (f r ∷ []) [] ++ told f rs
+    go : (b : Bool) → map f (cond b (r ∷ word_recs rs) (word_recs rs)) ≡ cond b (f r ∷ []) [] ++ told f rs
     go true = refl
     go false = refl
 
 -- a resumed phone is no word
-pub told-resume : {A : Type 0} (f : Rec → A) (n : ℕ) (m : Merge) (rs : List Rec) → told f (resume n m rs) ≡ told f rs
+pub told_resume : {A : Type 0} (f : Rec → A) (n : ℕ) (m : Merge) (rs : List Rec) → told f (resume n m rs) ≡ told f rs
 unfolding resume
-told-resume f n m rs = go (not (eqℤ m.keptPhone m.phone) && ltb (suc m.frame) n && not (changesAt (suc m.frame) rs))
+told_resume f n m rs = go (not (eqℤ m.kept_phone m.phone) && ltb (suc m.frame) n && not (changes_at (suc m.frame) rs))
   where
     go : (b : Bool) → told f (cond b (record { frame = suc m.frame; word = pos 0; phone = m.phone } ∷ rs) rs) ≡ told f rs
     go true = refl
@@ -47,36 +47,36 @@ told-resume f n m rs = go (not (eqℤ m.keptPhone m.phone) && ltb (suc m.frame) 
 abbrev said : List Rec → List ℤ
 said = told (λ (r : Rec). r.word)
 
-said-recs : (route : List ℕ) (n : ℕ) (p : Path) (rs : List Rec) → said (recsOn route n p rs) ≡ wordsOn (along route p) ++ said rs
-unfolding recsOn along
-said-recs route n emptyPath rs = refl
-said-recs route n (arcOn x p) rs =
+said_recs : (route : List ℕ) (n : ℕ) (p : Path) (rs : List Rec) → said (recs_on route n p rs) ≡ words_on_lem (along route p) ++ said rs
+unfolding recs_on along
+said_recs route n empty_path rs = refl
+said_recs route n (arc_on_lem x p) rs =
     let r : Rec = record { frame = x.frame; word = word x; phone = x.starts } in
-    let ws = wordsOn (along route p) in
-    said-recs route n p (r ∷ rs) ∙ ap (λ (l : List ℤ). ws ++ l) (told-cons (λ (r : Rec). r.word) r rs) ∙ sym (append_assoc ws (withWord (word x) []) (said rs)) ∙ ap (λ (l : List ℤ). l ++ said rs) (sym (words_append (along route p) (x.arc ∷ [])))
-said-recs route n (branchOn m k p) rs = go (memℕ m.number route) (said-recs route n k (resume n m rs)) (said-recs route n p rs)
+    let ws = words_on_lem (along route p) in
+    said_recs route n p (r ∷ rs) ∙ ap (λ (l : List ℤ). ws ++ l) (told-cons (λ (r : Rec). r.word) r rs) ∙ sym (append_assoc ws (with_word (word x) []) (said rs)) ∙ ap (λ (l : List ℤ). l ++ said rs) (sym (words_append (along route p) (x.arc ∷ [])))
+said_recs route n (branch_on m k p) rs = go (memℕ m.number route) (said_recs route n k (resume n m rs)) (said_recs route n p rs)
   where
-    go : (b : Bool) → said (recsOn route n k (resume n m rs)) ≡ wordsOn (along route k) ++ said (resume n m rs) → said (recsOn route n p rs) ≡ wordsOn (along route p) ++ said rs
-        → said (elim b as (λ x. List Rec) [ true ↦ recsOn route n k (resume n m rs) | false ↦ recsOn route n p rs ]) ≡ wordsOn (elim b as (λ x. List Arc) [ true ↦ along route k | false ↦ along route p ]) ++ said rs
-    go true e f = e ∙ ap (λ (l : List ℤ). wordsOn (along route k) ++ l) (told-resume (λ (r : Rec). r.word) n m rs)
+    go : (b : Bool) → said (recs_on route n k (resume n m rs)) ≡ words_on_lem (along route k) ++ said (resume n m rs) → said (recs_on route n p rs) ≡ words_on_lem (along route p) ++ said rs
+        → said (elim b as (λ x. List Rec) [ true ↦ recs_on route n k (resume n m rs) | false ↦ recs_on route n p rs ]) ≡ words_on_lem (elim b as (λ x. List Arc) [ true ↦ along route k | false ↦ along route p ]) ++ said rs
+    go true e f = e ∙ ap (λ (l : List ℤ). words_on_lem (along route k) ++ l) (told_resume (λ (r : Rec). r.word) n m rs)
     go false e f = f
 
 -- The words of a trace are the nonzero output labels of the path along its route.
-pub trace-words : (n : ℕ) (route : List ℕ) (p : Path) (cost : Float) → (trace n route p cost).words ≡ wordsOn (along route p)
+pub trace_words : (n : ℕ) (route : List ℕ) (p : Path) (cost : Float) → (trace n route p cost).words ≡ words_on_lem (along route p)
 unfolding trace
-trace-words n route p cost = said-recs route n p [] ∙ append-nil (wordsOn (along route p))
+trace_words n route p cost = said_recs route n p [] ∙ append-nil (words_on_lem (along route p))
 
 -- ---- the words newest first, as a group has them
 
-reverse-word : (w : ℤ) (ws : List ℤ) → reverse (withWord w ws) ≡ reverse ws ++ withWord w []
-reverse-word w ws = go (nonzero w)
+reverse_word : (w : ℤ) (ws : List ℤ) → reverse (with_word w ws) ≡ reverse ws ++ with_word w []
+reverse_word w ws = go (nonzero w)
   where
     go : (b : Bool) → reverse (cond b (w ∷ ws) ws) ≡ reverse ws ++ cond b (w ∷ []) []
     go true = reverse-cons w ws
     go false = sym (append-nil (reverse ws))
 
-pub own-words : (p : Path) → reverse (wordsBack p) ≡ wordsOn (arcs p)
-unfolding wordsBack along
-own-words emptyPath = refl
-own-words (arcOn x p) = reverse-word (word x) (wordsBack p) ∙ ap (λ (l : List ℤ). l ++ withWord (word x) []) (own-words p) ∙ sym (words_append (arcs p) (x.arc ∷ []))
-own-words (branchOn m k p) = own-words p
+pub own_words_lem : (p : Path) → reverse (words_back p) ≡ words_on_lem (arcs p)
+unfolding words_back along
+own_words_lem empty_path = refl
+own_words_lem (arc_on_lem x p) = reverse_word (word x) (words_back p) ∙ ap (λ (l : List ℤ). l ++ with_word (word x) []) (own_words_lem p) ∙ sym (words_append (arcs p) (x.arc ∷ []))
+own_words_lem (branch_on m k p) = own_words_lem p

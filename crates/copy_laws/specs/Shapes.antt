@@ -2,52 +2,52 @@
 use Rattle.std.specs.Prelude.{◌≡◌, refl, ℕ, ◌-◌, ◌<◌, ◌≤◌, true, false, cond, List, [], ◌∷◌, ◌++◌, ℤ, pos}
 use Rattle.std.proofs.Common.{sym, ap, ◌∙◌, arith, append_assoc}
 use Rattle.model.specs.Basics.{◌⊖◌, eqℤ}
-use Rattle.model.specs.Graph.{Graph, Arc, emits, phoneOf}
-use Rattle.model.specs.Path.{Step, Merge, Path, emptyPath, arcOn, branchOn}
-use Rattle.copy_laws.specs.Walks.{Heard, emitted, sum_of, weightsOf}
+use Rattle.model.specs.Graph.{Graph, Arc, emits, phone_of}
+use Rattle.model.specs.Path.{Step, Merge, Path, empty_path, arc_on_lem, branch_on}
+use Rattle.copy_laws.specs.Walks.{Heard, emitted, sum_of, weights_of}
 use Rattle.copy_laws.specs.Routes.{arcs, Walks}
 use Rattle.copy_laws.specs.Sums.{Difference}
 
 -- ---- the numbers are below f, and fall down the path and its kept paths
 
 abbrev pub Falling : (f : ℕ) → Path → Type 0
-Falling f emptyPath = Unit {0}
-Falling f (arcOn x p) = (x.number < f) × Falling x.number p
-Falling f (branchOn m k p) = (m.number < f) × Falling m.number k × Falling m.number p
+Falling f empty_path = Unit {0}
+Falling f (arc_on_lem x p) = (x.number < f) × Falling x.number p
+Falling f (branch_on m k p) = (m.number < f) × Falling m.number k × Falling m.number p
 
-pub falling-more : (f f' : ℕ) (p : Path) → f ≤ f' → Falling f p → Falling f' p
-falling-more f f' emptyPath i d = tt
-falling-more f f' (arcOn x p) i d = (let z = d.0 in omega arith, d.1)
-falling-more f f' (branchOn m k p) i d = (let z = d.0 in omega arith, d.1, d.2)
+pub falling_more : (f f' : ℕ) (p : Path) → f ≤ f' → Falling f p → Falling f' p
+falling_more f f' empty_path i d = tt
+falling_more f f' (arc_on_lem x p) i d = (let z = d.0 in omega arith, d.1)
+falling_more f f' (branch_on m k p) i d = (let z = d.0 in omega arith, d.1, d.2)
 
 -- ---- phones
 
 -- the phone of the last emitting arc, ph where there is none
-unfoldable pub phoneFrom : Graph → (ph : ℤ) → List Arc → ℤ
-phoneFrom g ph [] = ph
-phoneFrom g ph (a ∷ rest) = phoneFrom g (cond (emits a) (phoneOf g a) ph) rest
+unfoldable pub phone_from : Graph → (ph : ℤ) → List Arc → ℤ
+phone_from g ph [] = ph
+phone_from g ph (a ∷ rest) = phone_from g (cond (emits a) (phone_of g a) ph) rest
 
-abbrev pub phoneOn : Graph → Path → ℤ
-phoneOn g p = phoneFrom g (pos 0) (arcs p)
+abbrev pub phone_on : Graph → Path → ℤ
+phone_on g p = phone_from g (pos 0) (arcs p)
 
-pub phone-append : (g : Graph) (ph : ℤ) (route : List Arc) (a : Arc) → phoneFrom g ph (route ++ (a ∷ [])) ≡ cond (emits a) (phoneOf g a) (phoneFrom g ph route)
-unfolding phoneFrom
+pub phone-append : (g : Graph) (ph : ℤ) (route : List Arc) (a : Arc) → phone_from g ph (route ++ (a ∷ [])) ≡ cond (emits a) (phone_of g a) (phone_from g ph route)
+unfolding phone_from
 phone-append g ph [] a = refl
-phone-append g ph (b ∷ route) a = phone-append g (cond (emits b) (phoneOf g b) ph) route a
+phone-append g ph (b ∷ route) a = phone-append g (cond (emits b) (phone_of g b) ph) route a
 
 -- the phone that an arc in phone `ph` starts after one in phone `old`, 0 for none
-abbrev pub startedBy : (ph old : ℤ) → ℤ
-startedBy ph old = cond (eqℤ ph old) (pos 0) ph
+abbrev pub started_by : (ph old : ℤ) → ℤ
+started_by ph old = cond (eqℤ ph old) (pos 0) ph
 
 -- An emitting arc has the number of its frame, and starts its phone where that is another; an epsilon arc has the frame of the emitting arc before it, 0 where there is none, and starts no phone.
 pub record Mark (g : Graph) (x : Step) (p : Path) : Type 0 where
-  pub emitting : emits x.arc ≡ true → (x.frame ≡ emitted (arcs p)) × (x.starts ≡ startedBy (phoneOf g x.arc) (phoneOn g p))
+  pub emitting : emits x.arc ≡ true → (x.frame ≡ emitted (arcs p)) × (x.starts ≡ started_by (phone_of g x.arc) (phone_on g p))
   pub epsilon : emits x.arc ≡ false → (x.frame ≡ emitted (arcs p) - 1) × (x.starts ≡ pos 0)
 
 abbrev pub Marked : Graph → Path → Type 0
-Marked g emptyPath = Unit {0}
-Marked g (arcOn x p) = Mark g x p × Marked g p
-Marked g (branchOn m k p) = Marked g k × Marked g p
+Marked g empty_path = Unit {0}
+Marked g (arc_on_lem x p) = Mark g x p × Marked g p
+Marked g (branch_on m k p) = Marked g k × Marked g p
 
 -- ---- branches
 
@@ -61,30 +61,30 @@ pub record Fork (g : Graph) (fs : List Heard) (m : Merge) (k p : Path) : Type 0 
   pub won : Walks g frames p end
   pub numbered : 0 < m.number
   pub cost : m.cost ≡ sum_of g frames (arcs k) ⊖ sum_of g frames (arcs p)
-  pub graph : m.graph ≡ weightsOf (arcs k) ⊖ weightsOf (arcs p)
+  pub graph : m.graph ≡ weights_of (arcs k) ⊖ weights_of (arcs p)
   pub small : Difference m
 
 abbrev pub Forks : Graph → List Heard → Path → Type 0
-Forks g fs emptyPath = Unit {0}
-Forks g fs (arcOn x p) = Forks g fs p
-Forks g fs (branchOn m k p) = Fork g fs m k p × Forks g fs k × Forks g fs p
+Forks g fs empty_path = Unit {0}
+Forks g fs (arc_on_lem x p) = Forks g fs p
+Forks g fs (branch_on m k p) = Fork g fs m k p × Forks g fs k × Forks g fs p
 
-fork-more : (g : Graph) (fs more : List Heard) (m : Merge) (k p : Path) → Fork g fs m k p → Fork g (fs ++ more) m k p
-fork-more g fs more m k p b =
+fork_more : (g : Graph) (fs more : List Heard) (m : Merge) (k p : Path) → Fork g fs m k p → Fork g (fs ++ more) m k p
+fork_more g fs more m k p b =
     record { frames = b.frames; later = b.later ++ more; first = sym (append_assoc b.frames b.later more) ∙ ap (λ (l : List Heard). l ++ more) b.first; end = b.end; kept = b.kept; won = b.won; numbered = b.numbered; cost = b.cost; graph = b.graph; small = b.small }
 
-pub forks-more : (g : Graph) (fs more : List Heard) (p : Path) → Forks g fs p → Forks g (fs ++ more) p
-forks-more g fs more emptyPath b = tt
-forks-more g fs more (arcOn x p) b = forks-more g fs more p b
-forks-more g fs more (branchOn m k p) b = (fork-more g fs more m k p b.0, forks-more g fs more k b.1, forks-more g fs more p b.2)
+pub forks_more : (g : Graph) (fs more : List Heard) (p : Path) → Forks g fs p → Forks g (fs ++ more) p
+forks_more g fs more empty_path b = tt
+forks_more g fs more (arc_on_lem x p) b = forks_more g fs more p b
+forks_more g fs more (branch_on m k p) b = (fork_more g fs more m k p b.0, forks_more g fs more k b.1, forks_more g fs more p b.2)
 
 -- the differences alone
 abbrev pub Differences : Path → Type 0
-Differences emptyPath = Unit {0}
-Differences (arcOn x p) = Differences p
-Differences (branchOn m k p) = Difference m × Differences k × Differences p
+Differences empty_path = Unit {0}
+Differences (arc_on_lem x p) = Differences p
+Differences (branch_on m k p) = Difference m × Differences k × Differences p
 
 pub differences : (g : Graph) (fs : List Heard) (p : Path) → Forks g fs p → Differences p
-differences g fs emptyPath b = tt
-differences g fs (arcOn x p) b = differences g fs p b
-differences g fs (branchOn m k p) b = (b.0.small, differences g fs k b.1, differences g fs p b.2)
+differences g fs empty_path b = tt
+differences g fs (arc_on_lem x p) b = differences g fs p b
+differences g fs (branch_on m k p) b = (b.0.small, differences g fs k b.1, differences g fs p b.2)

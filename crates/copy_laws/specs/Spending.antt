@@ -9,12 +9,12 @@ use Rattle.std.proofs.Math.Dec.{eqb_refl}
 use Rattle.std.specs.Float.Ieee.{binary32, fits}
 use Rattle.std.proofs.lemmas.Bool.{not-true}
 use Rattle.lists.specs.Tests.{holds, is_true, never, and_both}
-use Rattle.real32.specs.Rank.{rank, rank_lt, rank-32}
+use Rattle.real32.specs.Rank.{rank, rank_lt, rank_32}
 use Rattle.real32.specs.Small.{tame}
 use Rattle.model.specs.Basics.{◌≺◌, ◌≼◌, ◌⊖◌, over, check}
-use Rattle.model.specs.Graph.{Arc, hasEps}
+use Rattle.model.specs.Graph.{Arc, has_eps}
 use Rattle.model.specs.Path.{Path, Token, Table, memℕ}
-use Rattle.model.specs.Arrive.{nonemitting, total, lower, Here, Work, Meets, cutOff, vacant, better, notBetter, against, meets, arriving, joined, keeps, keep, inHand, checkWinner, Change, arcCut, tokenStays, tokenWins, tokenJoins, or_else, joinsOrStays, fills, beats, loses, settle, passed, put, push, finish, place_of, arrive}
+use Rattle.model.specs.Arrive.{nonemitting, total, lower, Here, Work, Meets, cut_off_lem, vacant, better, not_better, against, meets, arriving, joined, keeps, keep, in_hand_lem, check_winner, Change, arc_cut, token_stays, token_wins, token_joins, or_else, joins_or_stays, fills, beats, loses, settle, passed, put, push, finish, place_of, arrive}
 use Rattle.model.specs.Accepted.{Ok, then, after, branches}
 use Rattle.copy_laws.specs.Tables.{At}
 
@@ -38,10 +38,10 @@ worth-set (o ∷ ts) (suc s) t h = let z = worth-set ts s t (omega arith) in ome
 abbrev pub Fits : Table → Type 0
 Fits ts = (s : ℕ) (t : Token) → At ts s t → T (fits binary32 t.cost)
 
-pub worth-le : (ts : Table) → Fits ts → worth ts ≤ length ts * 2 ^ 33
-worth-le [] f = omega arith
-worth-le (none ∷ ts) f = let z = worth-le ts (λ s. f (suc s)) in rw suc-mul (omega arith)
-worth-le (some t ∷ ts) f = let z = worth-le ts (λ s. f (suc s)) in let y = rank-32 t.cost (f 0 t refl) in rw suc-mul (omega arith)
+pub worth_le : (ts : Table) → Fits ts → worth ts ≤ length ts * 2 ^ 33
+worth_le [] f = omega arith
+worth_le (none ∷ ts) f = let z = worth_le ts (λ s. f (suc s)) in rw suc-mul (omega arith)
+worth_le (some t ∷ ts) f = let z = worth_le ts (λ s. f (suc s)) in let y = rank_32 t.cost (f 0 t refl) in rw suc-mul (omega arith)
 
 -- ---- the states below n that no join has requeued
 
@@ -49,33 +49,33 @@ abbrev pub spare : ℕ → List ℕ → ℕ
 spare zero re = 0
 spare (suc n) re = cond (memℕ n re) 0 1 + spare n re
 
-pub spare-nil : (n : ℕ) → spare n [] ≡ n
-spare-nil zero = refl
-spare-nil (suc n) = let z = spare-nil n in omega arith
+pub spare_nil : (n : ℕ) → spare n [] ≡ n
+spare_nil zero = refl
+spare_nil (suc n) = let z = spare_nil n in omega arith
 
-spare-one : (b c : Bool) → cond (b || c) 0 1 ≤ cond c 0 1
-spare-one true true = omega arith
-spare-one true false = omega arith
-spare-one false c = omega arith
+spare_one : (b c : Bool) → cond (b || c) 0 1 ≤ cond c 0 1
+spare_one true true = omega arith
+spare_one true false = omega arith
+spare_one false c = omega arith
 
-spare-le : (n s : ℕ) (re : List ℕ) → spare n (s ∷ re) ≤ spare n re
-spare-le zero s re = omega arith
-spare-le (suc n) s re = let y = spare-one (eqb n s) (memℕ n re) in let z = spare-le n s re in omega arith
+spare_le : (n s : ℕ) (re : List ℕ) → spare n (s ∷ re) ≤ spare n re
+spare_le zero s re = omega arith
+spare_le (suc n) s re = let y = spare_one (eqb n s) (memℕ n re) in let z = spare_le n s re in omega arith
 
-spare-less : (n s : ℕ) (re : List ℕ) → s < n → memℕ s re ≡ false → suc (spare n (s ∷ re)) ≤ spare n re
-spare-less zero s re h e = absurd (omega arith)
-spare-less (suc n) s re h e = go (eqb n s) refl (λ k. spare-less n s re k e)
+spare_less : (n s : ℕ) (re : List ℕ) → s < n → memℕ s re ≡ false → suc (spare n (s ∷ re)) ≤ spare n re
+spare_less zero s re h e = absurd (omega arith)
+spare_less (suc n) s re h e = go (eqb n s) refl (λ k. spare_less n s re k e)
   where
     go : (b : Bool) → eqb n s ≡ b → (s < n → suc (spare n (s ∷ re)) ≤ spare n re) → suc (cond (eqb n s || memℕ n re) 0 1 + spare n (s ∷ re)) ≤ cond (memℕ n re) 0 1 + spare n re
     go true q k =
         let i : n ≡ s = eqb→eq n s (holds q) in
         let f : memℕ n re ≡ false = subst (λ (k : ℕ). memℕ k re ≡ false) (sym i) e in
-        let z = spare-le n s re in
+        let z = spare_le n s re in
         rw (q, f) (omega arith)
     go false q k =
         let d : n ≡ s → ⊥ = λ i. never (sym q ∙ subst (λ (x : ℕ). eqb n x ≡ true) i (is_true (eqb_refl n))) in
         let z = k (omega arith) in
-        let y = spare-one (eqb n s) (memℕ n re) in
+        let y = spare_one (eqb n s) (memℕ n re) in
         omega arith
 
 -- ---- what is left to spend
@@ -90,46 +90,46 @@ module _ (h : Here) (n : ℕ) (t : Token) (a : Arc) (w : Work) (inside : a.targe
   abbrev Spends : Work → Type 0
   Spends v = left n v ≤ left n w
 
-  push-spends : (s : ℕ) (re : List ℕ) (v : Work) → suc (worth v.table + length v.queue + (spare n re + spare n re)) ≤ left n w → Ok Spends (push h s re v)
+  push_spends : (s : ℕ) (re : List ℕ) (v : Work) → suc (worth v.table + length v.queue + (spare n re + spare n re)) ≤ left n w → Ok Spends (push h s re v)
   unfolding push
-  push-spends s re v z = branches Spends (over (suc (length v.queue)) h.limits.queue) _ _ (λ c. tt) (λ c. omega arith)
+  push_spends s re v z = branches Spends (over (suc (length v.queue)) h.limits.queue) _ _ (λ c. tt) (λ c. omega arith)
 
   -- what becomes of the target: a winner ranks lower than what was there, and a token with a loser joined to it no higher
   abbrev Lighter : Change → Type 0
-  Lighter arcCut = Unit {0}
-  Lighter tokenStays = Unit {0}
-  Lighter (tokenWins u q) = value (some u) < value (place_of w a)
-  Lighter (tokenJoins u) = value (some u) ≤ value (place_of w a)
+  Lighter arc_cut = Unit {0}
+  Lighter token_stays = Unit {0}
+  Lighter (token_wins u q) = value (some u) < value (place_of w a)
+  Lighter (token_joins u) = value (some u) ≤ value (place_of w a)
 
-  finish-spends : (c : Change) → Lighter c → Ok Spends (finish h nonemitting a.target tot w c)
+  finish_spends : (c : Change) → Lighter c → Ok Spends (finish h nonemitting a.target tot w c)
   unfolding finish passed put lower
-  finish-spends arcCut l = omega arith
-  finish-spends tokenStays l = omega arith
-  finish-spends (tokenWins u q) l = let z = worth-set w.table a.target u (omega arith) in push-spends a.target w.requeued (put a.target u q (passed nonemitting tot w)) (omega arith)
-  finish-spends (tokenJoins u) l =
+  finish_spends arc_cut l = omega arith
+  finish_spends token_stays l = omega arith
+  finish_spends (token_wins u q) l = let z = worth-set w.table a.target u (omega arith) in push_spends a.target w.requeued (put a.target u q (passed nonemitting tot w)) (omega arith)
+  finish_spends (token_joins u) l =
       let v = put a.target u w.seq (passed nonemitting tot w) in
       let z = worth-set w.table a.target u (omega arith) in
-      branches Spends (hasEps h.graph a.target && not (memℕ a.target w.requeued)) _ _
-      (λ c. push-spends a.target (a.target ∷ w.requeued) v (let y = spare-less n a.target w.requeued inside (not-true (memℕ a.target w.requeued) (and_both (hasEps h.graph a.target) _ c).1) in omega arith))
+      branches Spends (has_eps h.graph a.target && not (memℕ a.target w.requeued)) _ _
+      (λ c. push_spends a.target (a.target ∷ w.requeued) v (let y = spare_less n a.target w.requeued inside (not-true (memℕ a.target w.requeued) (and_both (has_eps h.graph a.target) _ c).1) in omega arith))
       (λ c. omega arith)
 
   -- ---- what was met there
 
   abbrev Met : Meets → Type 0
-  Met cutOff = Unit {0}
+  Met cut_off_lem = Unit {0}
   Met vacant = place_of w a ≡ none
   Met (better gap held) = (place_of w a ≡ some held) × T (tot ≺ held.cost)
-  Met (notBetter gap held) = place_of w a ≡ some held
+  Met (not_better gap held) = place_of w a ≡ some held
 
   met : Met (meets w.cutoff tot (place_of w a))
   unfolding meets
   met = go (w.cutoff ≼ tot) (place_of w a) refl
     where
-      beside : (held : Token) → place_of w a ≡ some held → (b : Bool) → (tot ≺ held.cost) ≡ b → Met (cond b (better (held.cost ⊖ tot) held) (notBetter (tot ⊖ held.cost) held))
+      beside : (held : Token) → place_of w a ≡ some held → (b : Bool) → (tot ≺ held.cost) ≡ b → Met (cond b (better (held.cost ⊖ tot) held) (not_better (tot ⊖ held.cost) held))
       beside held e true l = (e, holds l)
       beside held e false l = e
 
-      go : (b : Bool) (o : Option Token) → place_of w a ≡ o → Met (elim b as (λ c. Meets) [ true ↦ cutOff | false ↦ against tot o ])
+      go : (b : Bool) (o : Option Token) → place_of w a ≡ o → Met (elim b as (λ c. Meets) [ true ↦ cut_off_lem | false ↦ against tot o ])
       go true o e = tt
       go false none e = e
       go false (some held) e = beside held e (tot ≺ held.cost) refl
@@ -138,36 +138,36 @@ module _ (h : Here) (n : ℕ) (t : Token) (a : Arc) (w : Work) (inside : a.targe
   CostsAs won none = Unit {0}
   CostsAs won (some j) = j.cost ≡ won.cost
 
-  keep-cost : (hand : List Path) (k : ℕ) (gap : Float) (won lost : Token) → Ok (CostsAs won) (keep h hand k gap won lost)
+  keep_cost : (hand : List Path) (k : ℕ) (gap : Float) (won lost : Token) → Ok (CostsAs won) (keep h hand k gap won lost)
   unfolding keep joined
-  keep-cost hand k gap won lost = branches (CostsAs won) (keeps h.margin gap won lost) _ _ (λ e. branches (CostsAs won) (h.limits.full hand) _ _ (λ f. tt) (λ f. refl)) (λ e. tt)
+  keep_cost hand k gap won lost = branches (CostsAs won) (keeps h.margin gap won lost) _ _ (λ e. branches (CostsAs won) (h.limits.full hand) _ _ (λ f. tt) (λ f. refl)) (λ e. tt)
 
-  or-else-cost : (won : Token) (j : Option Token) → CostsAs won j → value (some (or_else won j)) ≡ value (some won)
-  or-else-cost won none e = refl
-  or-else-cost won (some j) e = ap (rank binary32) e
+  or_else_cost : (won : Token) (j : Option Token) → CostsAs won j → value (some (or_else won j)) ≡ value (some won)
+  or_else_cost won none e = refl
+  or_else_cost won (some j) e = ap (rank binary32) e
 
-  joins-lighter : (held : Token) → place_of w a ≡ some held → (j : Option Token) → CostsAs held j → Lighter (joinsOrStays j)
-  joins-lighter held e none c = tt
-  joins-lighter held e (some j) c = let z : value (place_of w a) ≡ value (some j) = ap value e ∙ ap (rank binary32) (sym c) in omega arith
+  joins_lighter : (held : Token) → place_of w a ≡ some held → (j : Option Token) → CostsAs held j → Lighter (joins_or_stays j)
+  joins_lighter held e none c = tt
+  joins_lighter held e (some j) c = let z : value (place_of w a) ≡ value (some j) = ap value e ∙ ap (rank binary32) (sym c) in omega arith
 
-  settle-lighter : T (fits binary32 tot) → ((held : Token) → place_of w a ≡ some held → T (fits binary32 held.cost)) → (m : Meets) → Met m → Ok Lighter (settle h nonemitting t a w m)
+  settle_lighter : T (fits binary32 tot) → ((held : Token) → place_of w a ≡ some held → T (fits binary32 held.cost)) → (m : Meets) → Met m → Ok Lighter (settle h nonemitting t a w m)
   unfolding settle fills beats loses arriving
-  settle-lighter f k cutOff e = tt
-  settle-lighter f k vacant e =
-      after Lighter (check 12 (tame tot)) _ λ u. after Lighter (checkWinner h w nonemitting t a) _ λ x. let z : value (place_of w a) ≡ value none = ap value e in let y = rank-32 tot f in omega arith
-  settle-lighter f k (better gap held) e =
+  settle_lighter f k cut_off_lem e = tt
+  settle_lighter f k vacant e =
+      after Lighter (check 12 (tame tot)) _ λ u. after Lighter (check_winner h w nonemitting t a) _ λ x. let z : value (place_of w a) ≡ value none = ap value e in let y = rank_32 tot f in omega arith
+  settle_lighter f k (better gap held) e =
       let won = arriving h nonemitting t a w.fresh held.seq false in
-      after Lighter (check 12 (tame tot)) _ λ u. after Lighter (checkWinner h w nonemitting t a) _ λ x.
-      then (CostsAs won) Lighter (keep h (inHand h w won.path) (suc w.fresh) gap won held) _ (keep-cost _ (suc w.fresh) gap won held) λ j c.
+      after Lighter (check 12 (tame tot)) _ λ u. after Lighter (check_winner h w nonemitting t a) _ λ x.
+      then (CostsAs won) Lighter (keep h (in_hand_lem h w won.path) (suc w.fresh) gap won held) _ (keep_cost _ (suc w.fresh) gap won held) λ j c.
       let z : value (place_of w a) ≡ value (some held) = ap value e.0 in
       let y = rank_lt binary32 tot held.cost f (k held e.0) e.1 in
-      let q = or-else-cost won j c in
+      let q = or_else_cost won j c in
       omega arith
-  settle-lighter f k (notBetter gap held) e =
+  settle_lighter f k (not_better gap held) e =
       let lost = arriving h nonemitting t a w.fresh 0 true in
       after Lighter (check 12 (tame tot)) _ λ u.
-      then (CostsAs held) Lighter (keep h (inHand h w lost.path) (suc w.fresh) gap held lost) _ (keep-cost _ (suc w.fresh) gap held lost) λ j c. joins-lighter held e j c
+      then (CostsAs held) Lighter (keep h (in_hand_lem h w lost.path) (suc w.fresh) gap held lost) _ (keep_cost _ (suc w.fresh) gap held lost) λ j c. joins_lighter held e j c
 
-  pub arrive-spends : T (fits binary32 tot) → ((held : Token) → place_of w a ≡ some held → T (fits binary32 held.cost)) → Ok Spends (arrive h nonemitting t a w)
+  pub arrive_spends : T (fits binary32 tot) → ((held : Token) → place_of w a ≡ some held → T (fits binary32 held.cost)) → Ok Spends (arrive h nonemitting t a w)
   unfolding arrive
-  arrive-spends f k = then Lighter Spends (settle h nonemitting t a w (meets w.cutoff tot (place_of w a))) _ (settle-lighter f k (meets w.cutoff tot (place_of w a)) met) finish-spends
+  arrive_spends f k = then Lighter Spends (settle h nonemitting t a w (meets w.cutoff tot (place_of w a))) _ (settle_lighter f k (meets w.cutoff tot (place_of w a)) met) finish_spends

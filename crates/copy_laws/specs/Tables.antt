@@ -39,8 +39,8 @@ at_set (o ∷ ts) (suc i) u zero t e = inr (omega arith, e)
 at_set (o ∷ ts) (suc i) u (suc s) t e = case (at_set ts i u s t e) (λ p. inl (ap suc p.0, p.1)) (λ p. inr (let z = p.0 in omega arith, p.1))
 
 -- what holds of the new token and of the others holds of all
-pub at-put : (P : ℕ → Token → Type 0) (ts us : Table) (i : ℕ) (u : Token) → us ≡ set ts i (some u) → P i u → ((s : ℕ) (t : Token) → s ≢ i → At ts s t → P s t) → (s : ℕ) (t : Token) → At us s t → P s t
-at-put P ts us i u f p old s t e =
+pub at_put : (P : ℕ → Token → Type 0) (ts us : Table) (i : ℕ) (u : Token) → us ≡ set ts i (some u) → P i u → ((s : ℕ) (t : Token) → s ≢ i → At ts s t → P s t) → (s : ℕ) (t : Token) → At us s t → P s t
+at_put P ts us i u f p old s t e =
     case (at_set ts i u s t (subst (λ (x : Table). At x s t) f e)) (λ y. subst (λ (k : ℕ). P k t) (sym y.0) (subst (P i) (sym y.1) p)) (λ y. old s t y.0 y.1)
 
 pub at_new : (ts us : Table) (i : ℕ) (u : Token) → us ≡ set ts i (some u) → i < length ts → At us i u
@@ -56,25 +56,25 @@ vacant [] = 0
 vacant (none ∷ ts) = suc (vacant ts)
 vacant (some t ∷ ts) = vacant ts
 
-pub vacant-le : (ts : Table) → vacant ts ≤ length ts
-vacant-le [] = omega arith
-vacant-le (none ∷ ts) = let z = vacant-le ts in omega arith
-vacant-le (some t ∷ ts) = let z = vacant-le ts in omega arith
+pub vacant_le : (ts : Table) → vacant ts ≤ length ts
+vacant_le [] = omega arith
+vacant_le (none ∷ ts) = let z = vacant_le ts in omega arith
+vacant_le (some t ∷ ts) = let z = vacant_le ts in omega arith
 
-pub vacant-none : (n : ℕ) → vacant (replicate n none) ≡ n
-vacant-none zero = refl
-vacant-none (suc n) = ap suc (vacant-none n)
+pub vacant_none : (n : ℕ) → vacant (replicate n none) ≡ n
+vacant_none zero = refl
+vacant_none (suc n) = ap suc (vacant_none n)
 
-pub vacant-fill : (ts : Table) (i : ℕ) (u : Token) → i < length ts → get_or ts i none ≡ none → suc (vacant (set ts i (some u))) ≡ vacant ts
-vacant-fill [] i u h e = absurd (omega arith)
-vacant-fill (none ∷ ts) zero u h e = refl
-vacant-fill (some t ∷ ts) zero u h e = none≢some t (sym e)
-vacant-fill (none ∷ ts) (suc i) u h e = ap suc (vacant-fill ts i u (omega arith) e)
-vacant-fill (some t ∷ ts) (suc i) u h e = vacant-fill ts i u (omega arith) e
+pub vacant_fill : (ts : Table) (i : ℕ) (u : Token) → i < length ts → get_or ts i none ≡ none → suc (vacant (set ts i (some u))) ≡ vacant ts
+vacant_fill [] i u h e = absurd (omega arith)
+vacant_fill (none ∷ ts) zero u h e = refl
+vacant_fill (some t ∷ ts) zero u h e = none≢some t (sym e)
+vacant_fill (none ∷ ts) (suc i) u h e = ap suc (vacant_fill ts i u (omega arith) e)
+vacant_fill (some t ∷ ts) (suc i) u h e = vacant_fill ts i u (omega arith) e
 
-pub vacant-same : (ts : Table) (i : ℕ) (t u : Token) → At ts i t → vacant (set ts i (some u)) ≡ vacant ts
-vacant-same [] i t u e = none≢some t e
-vacant-same (none ∷ ts) zero t u e = none≢some t e
-vacant-same (some x ∷ ts) zero t u e = refl
-vacant-same (none ∷ ts) (suc i) t u e = ap suc (vacant-same ts i t u e)
-vacant-same (some x ∷ ts) (suc i) t u e = vacant-same ts i t u e
+pub vacant_same : (ts : Table) (i : ℕ) (t u : Token) → At ts i t → vacant (set ts i (some u)) ≡ vacant ts
+vacant_same [] i t u e = none≢some t e
+vacant_same (none ∷ ts) zero t u e = none≢some t e
+vacant_same (some x ∷ ts) zero t u e = refl
+vacant_same (none ∷ ts) (suc i) t u e = ap suc (vacant_same ts i t u e)
+vacant_same (some x ∷ ts) (suc i) t u e = vacant_same ts i t u e

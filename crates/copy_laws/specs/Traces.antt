@@ -4,34 +4,34 @@ use Rattle.std.proofs.Common.{sym, ◌∙◌, subst}
 use Rattle.std.proofs.Math.Path.{ap}
 use mathlib.Core.List.{List, [], ◌∷◌, ◌++◌, map}
 use Rattle.lists.specs.Tests.{never}
-use Rattle.lists.specs.Lists.{keepIf}
+use Rattle.lists.specs.Lists.{keep_if}
 use Rattle.model.specs.Basics.{eqℤ, nonzero}
 use Rattle.model.specs.Graph.{Graph}
-use Rattle.model.specs.Path.{Path, emptyPath, arcOn, branchOn, word}
-use Rattle.model.specs.Reads.{Traced, Rec, recsOn, wordRecs, phoneRecs, segments, trace}
+use Rattle.model.specs.Path.{Path, empty_path, arc_on_lem, branch_on, word}
+use Rattle.model.specs.Reads.{Traced, Rec, recs_on, word_recs, phone_recs, segments, trace}
 use Rattle.model.specs.Checked.{GoodGraph}
-use Rattle.copy_laws.specs.Labels.{eqℤ-same}
+use Rattle.copy_laws.specs.Labels.{eqℤ_same}
 use Rattle.copy_laws.specs.Walks.{Leads, emitted}
 use Rattle.copy_laws.specs.Routes.{arcs}
 use Rattle.copy_laws.specs.Shapes.{Marked}
-use Rattle.copy_laws.specs.Segments.{phonesOn, Marks, marksEnd, marksEpsilon, marksEmitting, own-marks}
+use Rattle.copy_laws.specs.Segments.{phones_on, Marks, marks_end, marks_epsilon, marks_emitting, own_marks}
 
 -- ---- the Rust's `trace`
 
 -- The records of a path and of no kept one, in front of later ones, oldest first. An arc with neither a word nor a change of phone has none in the Rust, and adds nothing here.
-unfoldable pub ownRecs : Path → List Rec → List Rec
-ownRecs emptyPath rs = rs
-ownRecs (arcOn s p) rs = ownRecs p (record { frame = s.frame; word = word s; phone = s.starts } ∷ rs)
-ownRecs (branchOn m k p) rs = ownRecs p rs
+unfoldable pub own_recs : Path → List Rec → List Rec
+own_recs empty_path rs = rs
+own_recs (arc_on_lem s p) rs = own_recs p (record { frame = s.frame; word = word s; phone = s.starts } ∷ rs)
+own_recs (branch_on m k p) rs = own_recs p rs
 
 -- the records with a phone: each opens a segment, whatever phone is open
 abbrev pub opens : List Rec → List Rec
-opens = keepIf (λ (r : Rec). nonzero r.phone)
+opens = keep_if (λ (r : Rec). nonzero r.phone)
 
-unfoldable pub ownTrace : (n : ℕ) → Path → (cost : Float) → Traced
-ownTrace n p cost =
-    let rs = ownRecs p [] in
-    record { words = map (λ (r : Rec). r.word) (wordRecs rs); wordFrames = map (λ (r : Rec). r.frame) (wordRecs rs); phones = segments n (opens rs); cost = cost }
+unfoldable pub own_trace : (n : ℕ) → Path → (cost : Float) → Traced
+own_trace n p cost =
+    let rs = own_recs p [] in
+    record { words = map (λ (r : Rec). r.word) (word_recs rs); word_frames = map (λ (r : Rec). r.frame) (word_recs rs); phones = segments n (opens rs); cost = cost }
 
 -- ---- what would merge two records
 
@@ -40,40 +40,40 @@ abbrev pub NeverMerges : (ph : ℤ) → List Rec → Type 0
 NeverMerges ph [] = Unit {0}
 NeverMerges ph (r ∷ rs) = (nonzero r.phone ≡ true → eqℤ r.phone ph ≡ false) × NeverMerges (cond (nonzero r.phone) r.phone ph) rs
 
-merges-none : (ph z : ℤ) (r : Rec) (rs : List Rec) → r.phone ≡ z → (nonzero z ≡ true → eqℤ z ph ≡ false) → NeverMerges (cond (nonzero z) z ph) rs → NeverMerges ph (r ∷ rs)
-merges-none ph z r rs e f d = subst (λ (y : ℤ). (nonzero y ≡ true → eqℤ y ph ≡ false) × NeverMerges (cond (nonzero y) y ph) rs) (sym e) (f, d)
+merges_none : (ph z : ℤ) (r : Rec) (rs : List Rec) → r.phone ≡ z → (nonzero z ≡ true → eqℤ z ph ≡ false) → NeverMerges (cond (nonzero z) z ph) rs → NeverMerges ph (r ∷ rs)
+merges_none ph z r rs e f d = subst (λ (y : ℤ). (nonzero y ≡ true → eqℤ y ph ≡ false) × NeverMerges (cond (nonzero y) y ph) rs) (sym e) (f, d)
 
-marks-merge-none : (ph : ℤ) (k n : ℕ) (rs : List Rec) (qs : List ℤ) → Marks ph k n rs qs → NeverMerges ph rs
-marks-merge-none ph k n rs qs marksEnd = tt
-marks-merge-none ph k n rs qs (marksEpsilon {k = i} {r = r} {rs = xs} {qs = ps} e d) = merges-none ph (pos 0) r xs e (λ x. never x) (marks-merge-none ph i n xs ps d)
-marks-merge-none ph k n rs qs (marksEmitting {k = i} {r = r} {rs = xs} {qs = ps} q nz f e d) = go (eqℤ q ph) refl (marks-merge-none q (suc i) n xs ps d)
+marks_merge_none : (ph : ℤ) (k n : ℕ) (rs : List Rec) (qs : List ℤ) → Marks ph k n rs qs → NeverMerges ph rs
+marks_merge_none ph k n rs qs marks_end = tt
+marks_merge_none ph k n rs qs (marks_epsilon {k = i} {r = r} {rs = xs} {qs = ps} e d) = merges_none ph (pos 0) r xs e (λ x. never x) (marks_merge_none ph i n xs ps d)
+marks_merge_none ph k n rs qs (marks_emitting {k = i} {r = r} {rs = xs} {qs = ps} q nz f e d) = go (eqℤ q ph) refl (marks_merge_none q (suc i) n xs ps d)
   where
     go : (b : Bool) → eqℤ q ph ≡ b → NeverMerges q xs → NeverMerges ph (r ∷ xs)
-    go true x rest = merges-none ph (pos 0) r xs (e ∙ ap (λ (c : Bool). cond c (pos 0) q) x) (λ y. never y) (subst (λ (z : ℤ). NeverMerges z xs) (eqℤ-same q ph x) rest)
-    go false x rest = merges-none ph q r xs (e ∙ ap (λ (c : Bool). cond c (pos 0) q) x) (λ y. x) (subst (λ (c : Bool). NeverMerges (cond c q ph) xs) (sym nz) rest)
+    go true x rest = merges_none ph (pos 0) r xs (e ∙ ap (λ (c : Bool). cond c (pos 0) q) x) (λ y. never y) (subst (λ (z : ℤ). NeverMerges z xs) (eqℤ_same q ph x) rest)
+    go false x rest = merges_none ph q r xs (e ∙ ap (λ (c : Bool). cond c (pos 0) q) x) (λ y. x) (subst (λ (c : Bool). NeverMerges (cond c q ph) xs) (sym nz) rest)
 
 -- then the definition's test drops no record
-phone-recs : (ph : ℤ) (rs : List Rec) → NeverMerges ph rs → phoneRecs ph rs ≡ opens rs
-phone-recs ph [] d = refl
-phone-recs ph (r ∷ rs) d = go (nonzero r.phone) refl d.0 (phone-recs ph rs) (phone-recs r.phone rs) d.1
+phone_recs_lem : (ph : ℤ) (rs : List Rec) → NeverMerges ph rs → phone_recs ph rs ≡ opens rs
+phone_recs_lem ph [] d = refl
+phone_recs_lem ph (r ∷ rs) d = go (nonzero r.phone) refl d.0 (phone_recs_lem ph rs) (phone_recs_lem r.phone rs) d.1
   where
-    go : (b : Bool) → nonzero r.phone ≡ b → (b ≡ true → eqℤ r.phone ph ≡ false) → (NeverMerges ph rs → phoneRecs ph rs ≡ opens rs) → (NeverMerges r.phone rs → phoneRecs r.phone rs ≡ opens rs) → NeverMerges (cond b r.phone ph) rs
-        → elim (b && not (eqℤ r.phone ph)) as (λ x. List Rec) [ true ↦ r ∷ phoneRecs r.phone rs | false ↦ phoneRecs ph rs ] ≡ cond b (r ∷ opens rs) (opens rs)
+    go : (b : Bool) → nonzero r.phone ≡ b → (b ≡ true → eqℤ r.phone ph ≡ false) → (NeverMerges ph rs → phone_recs ph rs ≡ opens rs) → (NeverMerges r.phone rs → phone_recs r.phone rs ≡ opens rs) → NeverMerges (cond b r.phone ph) rs
+        → elim (b && not (eqℤ r.phone ph)) as (λ x. List Rec) [ true ↦ r ∷ phone_recs r.phone rs | false ↦ phone_recs ph rs ] ≡ cond b (r ∷ opens rs) (opens rs)
     go true e f same new d = rw (f refl) (ap (λ (l : List Rec). r ∷ l) (new d))
     go false e f same new d = same d
 
-own-recs : (n : ℕ) (p : Path) (rs : List Rec) → recsOn [] n p rs ≡ ownRecs p rs
-unfolding recsOn ownRecs
-own-recs n emptyPath rs = refl
-own-recs n (arcOn s p) rs = own-recs n p _
-own-recs n (branchOn m k p) rs = own-recs n p rs
+own_recs_lem : (n : ℕ) (p : Path) (rs : List Rec) → recs_on [] n p rs ≡ own_recs p rs
+unfolding recs_on own_recs
+own_recs_lem n empty_path rs = refl
+own_recs_lem n (arc_on_lem s p) rs = own_recs_lem n p _
+own_recs_lem n (branch_on m k p) rs = own_recs_lem n p rs
 
 module _ (g : Graph) (good : GoodGraph g) (n s : ℕ) (p : Path) (marked : Marked g p) (leads : Leads g g.start (arcs p) s) (frames : emitted (arcs p) ≡ n) where
-  pub own-merges-none : NeverMerges (pos 0) (ownRecs p [])
-  own-merges-none = subst (NeverMerges (pos 0)) (own-recs n p []) (marks-merge-none (pos 0) 0 n (recsOn [] n p []) (phonesOn g (arcs p) ++ []) (own-marks g good n s p marked leads frames))
+  pub own_merges_none : NeverMerges (pos 0) (own_recs p [])
+  own_merges_none = subst (NeverMerges (pos 0)) (own_recs_lem n p []) (marks_merge_none (pos 0) 0 n (recs_on [] n p []) (phones_on g (arcs p) ++ []) (own_marks g good n s p marked leads frames))
 
-  pub own-trace : (cost : Float) → ownTrace n p cost ≡ trace n [] p cost
-  unfolding ownTrace trace
-  own-trace cost =
-      ap (λ (l : List Rec). record { words = map (λ (r : Rec). r.word) (wordRecs (ownRecs p [])); wordFrames = map (λ (r : Rec). r.frame) (wordRecs (ownRecs p [])); phones = segments n l; cost = cost }) (sym (phone-recs (pos 0) (ownRecs p []) own-merges-none))
-      ∙ ap (λ (rs : List Rec). record { words = map (λ (r : Rec). r.word) (wordRecs rs); wordFrames = map (λ (r : Rec). r.frame) (wordRecs rs); phones = segments n (phoneRecs (pos 0) rs); cost = cost }) (sym (own-recs n p []))
+  pub own_trace_lem : (cost : Float) → own_trace n p cost ≡ trace n [] p cost
+  unfolding own_trace trace
+  own_trace_lem cost =
+      ap (λ (l : List Rec). record { words = map (λ (r : Rec). r.word) (word_recs (own_recs p [])); word_frames = map (λ (r : Rec). r.frame) (word_recs (own_recs p [])); phones = segments n l; cost = cost }) (sym (phone_recs_lem (pos 0) (own_recs p []) own_merges_none))
+      ∙ ap (λ (rs : List Rec). record { words = map (λ (r : Rec). r.word) (word_recs rs); word_frames = map (λ (r : Rec). r.frame) (word_recs rs); phones = segments n (phone_recs (pos 0) rs); cost = cost }) (sym (own_recs_lem n p []))

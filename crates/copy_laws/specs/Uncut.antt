@@ -5,62 +5,62 @@ use Rattle.std.proofs.Common.{arith, eqb-true}
 use Rattle.std.proofs.Math.Option.{Option, none}
 use mathlib.Core.List.{List, [], ◌∷◌, ◌++◌}
 use Rattle.std.proofs.lemmas.List.{length-replicate}
-use Rattle.lists.specs.Tests.{or-neither}
+use Rattle.lists.specs.Tests.{or_neither}
 use Rattle.model.specs.Basics.{0f, Outcome, ok, ◌>>=◌}
-use Rattle.model.specs.Graph.{Graph, NO-STATE, states}
+use Rattle.model.specs.Graph.{Graph, no_state, states}
 use Rattle.model.specs.Path.{Token, Limits}
 use Rattle.model.specs.Cutoff.{Config}
 use Rattle.model.specs.Arrive.{total, Here, Work}
-use Rattle.model.specs.Passes.{noTokens, emittingPass, nonemittingPass, State, dropped, done, during, startToken, startWork, start, frame}
+use Rattle.model.specs.Passes.{no_tokens, emitting_pass, nonemitting_pass, State, dropped, done, during, start_token, start_work, start, frame}
 use Rattle.model.specs.Accepted.{Ok, then}
 use Rattle.model.specs.Checked.{GoodGraph}
 use Rattle.copy_laws.specs.Walks.{Heard}
-use Rattle.copy_laws.specs.Drops.{onOk, dropsEmitting, dropsNonemitting, dropsStart, dropsFrame}
+use Rattle.copy_laws.specs.Drops.{on_ok, drops_emitting, drops_nonemitting, drops_start, drops_frame}
 use Rattle.copy_laws.specs.Tables.{at_new}
-use Rattle.copy_laws.specs.Carried.{then-uncut}
+use Rattle.copy_laws.specs.Carried.{then_uncut}
 use Rattle.copy_laws.specs.Sums.{Floats32}
 use Rattle.copy_laws.specs.Kept.{hearing}
-use Rattle.copy_laws.specs.States.{frame-timely, Standing, start-inside, start-active, inFrame, frame-passes}
-use Rattle.copy_laws.specs.Within.{Within, lowers-within}
-use Rattle.copy_laws.specs.Spread.{Emitted, emitting-spreads}
-use Rattle.copy_laws.specs.Closing.{Whole, pass-closes}
-use Rattle.copy_laws.specs.Least.{Covered, start-covered, frame-covered}
+use Rattle.copy_laws.specs.States.{frame_timely, Standing, start_inside, start_active, in_frame, frame_passes}
+use Rattle.copy_laws.specs.Within.{Within, lowers_within}
+use Rattle.copy_laws.specs.Spread.{Emitted, emitting_spreads}
+use Rattle.copy_laws.specs.Closing.{Whole, pass_closes}
+use Rattle.copy_laws.specs.Least.{Covered, start_covered, frame_covered}
 
 module _ (g : Graph) (good : GoodGraph g) (floats : Floats32 g) (c : Config) (l : Limits) (st : State) where
   abbrev CoveredState : List Heard → State → Type 0
   CoveredState fs s = Covered g fs s.table
 
-  no_start : eqb g.start NO-STATE ≡ true → g.start < states g → ⊥
-  no_start e i = let z = eqb-true g.start NO-STATE e in let y = good.shape.states-few in omega arith
+  no_start : eqb g.start no_state ≡ true → g.start < states g → ⊥
+  no_start e i = let z = eqb-true g.start no_state e in let y = good.shape.states_few in omega arith
 
-  pub start-covers : dropsStart g c l st ≡ false → Ok (CoveredState []) (start g c l st)
-  unfolding start dropsStart dropped startToken
-  start-covers d = go (eqb g.start NO-STATE) refl d
+  pub start_covers : drops_start g c l st ≡ false → Ok (CoveredState []) (start g c l st)
+  unfolding start drops_start dropped start_token
+  start_covers d = go (eqb g.start no_state) refl d
     where
       h : Here
       h = during g l st 0 []
 
-      first : (v : Work) → Whole g [] (startWork g c).table v → g.start < states g → Within v.table g.start 0f
-      first v w i = w.lowered g.start startToken (at_new (noTokens g) _ g.start startToken refl (let z = length-replicate {A = Option Token} (states g) none in omega arith))
+      first : (v : Work) → Whole g [] (start_work g c).table v → g.start < states g → Within v.table g.start 0f
+      first v w i = w.lowered g.start start_token (at_new (no_tokens g) _ g.start start_token refl (let z = length-replicate {A = Option Token} (states g) none in omega arith))
 
-      go : (b : Bool) → eqb g.start NO-STATE ≡ b → (elim b as (λ x. Bool) [ true ↦ false | false ↦ dropsNonemitting h (startWork g c) ]) ≡ false
-          → Ok (CoveredState []) (elim b as (λ x. Outcome State) [ true ↦ ok (dropped g st) | false ↦ nonemittingPass h (startWork g c) >>= λ v. ok (done st 0 v) ])
+      go : (b : Bool) → eqb g.start no_state ≡ b → (elim b as (λ x. Bool) [ true ↦ false | false ↦ drops_nonemitting h (start_work g c) ]) ≡ false
+          → Ok (CoveredState []) (elim b as (λ x. Outcome State) [ true ↦ ok (dropped g st) | false ↦ nonemitting_pass h (start_work g c) >>= λ v. ok (done st 0 v) ])
       go true e d = λ route s w. absurd (no_start e w.begins)
       go false e d =
-          then (Whole g [] (startWork g c).table) (CoveredState []) (nonemittingPass h (startWork g c)) _ (pass-closes h [] good floats refl (startWork g c) (start-active g c (start-inside g good e)) refl refl d) λ v w.
-          start-covered g good v.table w.closed (first v w)
+          then (Whole g [] (start_work g c).table) (CoveredState []) (nonemitting_pass h (start_work g c)) _ (pass_closes h [] good floats refl (start_work g c) (start_active g c (start_inside g good e)) refl refl d) λ v w.
+          start_covered g good v.table w.closed (first v w)
 
-  pub frame-covers : (fs : List Heard) (ls : List Float) → Standing g fs st → Covered g fs st.table → dropsFrame g c l ls st ≡ false → Ok (CoveredState (fs ++ (hearing ls st.table ∷ []))) (frame g c l ls st)
-  unfolding dropsFrame
-  frame-covers fs ls d covered cut =
-      let h = inFrame g l st in
+  pub frame_covers : (fs : List Heard) (ls : List Float) → Standing g fs st → Covered g fs st.table → drops_frame g c l ls st ≡ false → Ok (CoveredState (fs ++ (hearing ls st.table ∷ []))) (frame g c l ls st)
+  unfolding drops_frame
+  frame_covers fs ls d covered cut =
+      let h = in_frame g l st in
       let ts = st.table in
       let fs' = fs ++ (hearing ls ts ∷ []) in
-      let m = emittingPass h c ls ts st.seq st.fresh in
-      let uncut = or-neither (dropsEmitting h c ls ts st.seq st.fresh) (onOk (dropsNonemitting h) m) cut in
+      let m = emitting_pass h c ls ts st.seq st.fresh in
+      let uncut = or_neither (drops_emitting h c ls ts st.seq st.fresh) (on_ok (drops_nonemitting h) m) cut in
       let Emit = Emitted h c ls ts st.seq st.fresh fs good floats d.frames d.active in
-      frame-passes g good floats c l st (CoveredState fs') ls λ u.
-      then-uncut (Unit {0}) Emit (CoveredState fs') (dropsNonemitting h) m _ (emitting-spreads h c ls ts st.seq st.fresh fs good floats d.frames d.active uncut.0) (λ z. uncut.1) λ w e y.
-      then (Whole g fs' w.table) (CoveredState fs') (nonemittingPass h w) _ (pass-closes h fs' good floats (frame-timely g l st fs ls d.frames) w e.since.active e.since.no-queue e.since.none-requeued (y tt)) λ v x.
-      frame-covered g good fs ls ts v.table u.tames (λ s t i. (d.active.sound s t i).sums.cost-tame) covered
-      (λ s t i a k n. lowers-within w.table v.table a.target _ x.lowered (unfold total in e.each s t i a k n)) x.closed
+      frame_passes g good floats c l st (CoveredState fs') ls λ u.
+      then_uncut (Unit {0}) Emit (CoveredState fs') (drops_nonemitting h) m _ (emitting_spreads h c ls ts st.seq st.fresh fs good floats d.frames d.active uncut.0) (λ z. uncut.1) λ w e y.
+      then (Whole g fs' w.table) (CoveredState fs') (nonemitting_pass h w) _ (pass_closes h fs' good floats (frame_timely g l st fs ls d.frames) w e.since.active e.since.no_queue e.since.none_requeued (y tt)) λ v x.
+      frame_covered g good fs ls ts v.table u.tames (λ s t i. (d.active.sound s t i).sums.cost_tame) covered
+      (λ s t i a k n. lowers_within w.table v.table a.target _ x.lowered (unfold total in e.each s t i a k n)) x.closed

@@ -3,10 +3,10 @@ use Rattle.std.specs.Prelude.{◌≡◌, refl, ℕ, suc, ◌<◌, Bool, true, fa
 use Rattle.std.proofs.Common.{sym, ap, ◌∙◌, subst, arith, length-append}
 use mathlib.Core.List.{List, [], ◌∷◌, ◌++◌, append-nil, map, map-append, tail}
 use Rattle.std.proofs.lemmas.Bool.{not-true}
-use Rattle.lists.specs.Lists.{◌∈◌, keepIf, count}
+use Rattle.lists.specs.Lists.{◌∈◌, keep_if, count}
 use Rattle.lists.specs.Count.{count-append}
 use Rattle.model.specs.Basics.{◌⊕◌, ◌⊖◌, 0f, nonzero}
-use Rattle.model.specs.Graph.{Graph, Arc, states, arcsOf, emits}
+use Rattle.model.specs.Graph.{Graph, Arc, states, arcs_of, emits}
 use Rattle.model.specs.Path.{Token}
 use Rattle.model.specs.Arrive.{Pass, emitting, nonemitting, takes, loglike, total}
 
@@ -20,7 +20,7 @@ pub record Heard : Type 0 where
 -- from s over these arcs to t
 abbrev pub Leads : Graph → (s : ℕ) → List Arc → (t : ℕ) → Type 0
 Leads g s [] t = s ≡ t
-Leads g s (a ∷ rest) t = (a ∈ arcsOf g s) × Leads g a.target rest t
+Leads g s (a ∷ rest) t = (a ∈ arcs_of g s) × Leads g a.target rest t
 
 -- how many of them emit
 abbrev pub emitted : List Arc → ℕ
@@ -35,34 +35,34 @@ pub record Walk (g : Graph) (fs : List Heard) (route : List Arc) (s : ℕ) : Typ
 -- ---- words and sums
 
 -- the nonzero output labels
-abbrev pub wordsOn : List Arc → List ℤ
-wordsOn route = keepIf nonzero (map (λ (a : Arc). a.olabel) route)
+abbrev pub words_on_lem : List Arc → List ℤ
+words_on_lem route = keep_if nonzero (map (λ (a : Arc). a.olabel) route)
 
 -- what an emitting arc makes of x in this frame: each sum rounded once, in this order
-abbrev pub emittingTotal : Graph → Heard → Float → Arc → Float
-emittingTotal g f x a = (x ⊕ (f.offset ⊖ loglike g f.loglikes a)) ⊕ a.weight
+abbrev pub emitting_total : Graph → Heard → Float → Arc → Float
+emitting_total g f x a = (x ⊕ (f.offset ⊖ loglike g f.loglikes a)) ⊕ a.weight
 
 -- the first frame; a path of these frames never wants one more
-abbrev pub firstFrame : List Heard → Heard
-firstFrame [] = record { loglikes = []; offset = 0f }
-firstFrame (f ∷ fs) = f
+abbrev pub first_frame : List Heard → Heard
+first_frame [] = record { loglikes = []; offset = 0f }
+first_frame (f ∷ fs) = f
 
 -- From x on, an epsilon arc adds its weight, and the k-th emitting arc makes the emitting total with the k-th frame.
-unfoldable pub sumFrom : Graph → List Heard → Float → List Arc → Float
-sumFrom g fs x [] = x
-sumFrom g fs x (a ∷ rest) = elim (emits a) [ true ↦ sumFrom g (tail fs) (emittingTotal g (firstFrame fs) x a) rest | false ↦ sumFrom g fs (x ⊕ a.weight) rest ]
+unfoldable pub sum_from : Graph → List Heard → Float → List Arc → Float
+sum_from g fs x [] = x
+sum_from g fs x (a ∷ rest) = elim (emits a) [ true ↦ sum_from g (tail fs) (emitting_total g (first_frame fs) x a) rest | false ↦ sum_from g fs (x ⊕ a.weight) rest ]
 
 -- a path's cost begins at 0
 abbrev pub sum_of : Graph → List Heard → List Arc → Float
-sum_of g fs route = sumFrom g fs 0f route
+sum_of g fs route = sum_from g fs 0f route
 
 -- the arc weights alone: a token's graph sum
-unfoldable pub weightsFrom : Float → List Arc → Float
-weightsFrom x [] = x
-weightsFrom x (a ∷ rest) = weightsFrom (x ⊕ a.weight) rest
+unfoldable pub weights_from : Float → List Arc → Float
+weights_from x [] = x
+weights_from x (a ∷ rest) = weights_from (x ⊕ a.weight) rest
 
-abbrev pub weightsOf : List Arc → Float
-weightsOf route = weightsFrom 0f route
+abbrev pub weights_of : List Arc → Float
+weights_of route = weights_from 0f route
 
 -- ---- two stretches, one after the other
 
@@ -70,23 +70,23 @@ pub leads-append : (g : Graph) (s : ℕ) (route more : List Arc) (u t : ℕ) →
 leads-append g s [] more u t l k = subst (λ (i : ℕ). Leads g i more t) (sym l) k
 leads-append g s (a ∷ route) more u t l k = (l.0, leads-append g a.target route more u t l.1 k)
 
-pub leads-split : (g : Graph) (s : ℕ) (route more : List Arc) (t : ℕ) → Leads g s (route ++ more) t → (u : ℕ) × Leads g s route u × Leads g u more t
-leads-split g s [] more t l = (s, refl, l)
-leads-split g s (a ∷ route) more t l = let (u, p, q) = leads-split g a.target route more t l.1 in (u, (l.0, p), q)
+pub leads_split : (g : Graph) (s : ℕ) (route more : List Arc) (t : ℕ) → Leads g s (route ++ more) t → (u : ℕ) × Leads g s route u × Leads g u more t
+leads_split g s [] more t l = (s, refl, l)
+leads_split g s (a ∷ route) more t l = let (u, p, q) = leads_split g a.target route more t l.1 in (u, (l.0, p), q)
 
-pub keep_append : {A : Type 0} (p : A → Bool) (xs ys : List A) → keepIf p (xs ++ ys) ≡ keepIf p xs ++ keepIf p ys
+pub keep_append : {A : Type 0} (p : A → Bool) (xs ys : List A) → keep_if p (xs ++ ys) ≡ keep_if p xs ++ keep_if p ys
 keep_append p [] ys = refl
 keep_append p (x ∷ xs) ys = go (p x) (keep_append p xs ys)
   where
-    go : (b : Bool) → keepIf p (xs ++ ys) ≡ keepIf p xs ++ keepIf p ys → cond b (x ∷ keepIf p (xs ++ ys)) (keepIf p (xs ++ ys)) ≡ cond b (x ∷ keepIf p xs) (keepIf p xs) ++ keepIf p ys
+    go : (b : Bool) → keep_if p (xs ++ ys) ≡ keep_if p xs ++ keep_if p ys → cond b (x ∷ keep_if p (xs ++ ys)) (keep_if p (xs ++ ys)) ≡ cond b (x ∷ keep_if p xs) (keep_if p xs) ++ keep_if p ys
     go true e = ap (λ (l : List _). x ∷ l) e
     go false e = e
 
-pub words_append : (route more : List Arc) → wordsOn (route ++ more) ≡ wordsOn route ++ wordsOn more
-words_append route more = ap (keepIf nonzero) (map-append (λ (a : Arc). a.olabel) route more) ∙ keep_append nonzero (map (λ (a : Arc). a.olabel) route) (map (λ (a : Arc). a.olabel) more)
+pub words_append : (route more : List Arc) → words_on_lem (route ++ more) ≡ words_on_lem route ++ words_on_lem more
+words_append route more = ap (keep_if nonzero) (map-append (λ (a : Arc). a.olabel) route more) ∙ keep_append nonzero (map (λ (a : Arc). a.olabel) route) (map (λ (a : Arc). a.olabel) more)
 
-pub weights-append : (x : Float) (route more : List Arc) → weightsFrom x (route ++ more) ≡ weightsFrom (weightsFrom x route) more
-unfolding weightsFrom
+pub weights-append : (x : Float) (route more : List Arc) → weights_from x (route ++ more) ≡ weights_from (weights_from x route) more
+unfolding weights_from
 weights-append x [] more = refl
 weights-append x (a ∷ route) more = weights-append (x ⊕ a.weight) route more
 
@@ -97,41 +97,41 @@ pub emits_none : (a : Arc) (rest : List Arc) → emits a ≡ false → emitted (
 emits_none a rest e = simp e
 
 -- the first stretch takes the first frames, as many as it has emitting arcs
-pub sum-append : (g : Graph) (fs later : List Heard) (x : Float) (route more : List Arc) → emitted route ≡ length fs → sumFrom g (fs ++ later) x (route ++ more) ≡ sumFrom g later (sumFrom g fs x route) more
-unfolding sumFrom
+pub sum-append : (g : Graph) (fs later : List Heard) (x : Float) (route more : List Arc) → emitted route ≡ length fs → sum_from g (fs ++ later) x (route ++ more) ≡ sum_from g later (sum_from g fs x route) more
+unfolding sum_from
 sum-append g [] later x [] more e = refl
 sum-append g (f ∷ fs) later x [] more e = absurd (omega arith)
 sum-append g fs later x (a ∷ route) more e = go (emits a) refl fs e (λ fs x. sum-append g fs later x route more)
   where
-    go : (b : Bool) → emits a ≡ b → (fs : List Heard) → emitted (a ∷ route) ≡ length fs → ((fs : List Heard) (x : Float) → emitted route ≡ length fs → sumFrom g (fs ++ later) x (route ++ more) ≡ sumFrom g later (sumFrom g fs x route) more)
-        → (elim b as (λ c. Float) [ true ↦ sumFrom g (tail (fs ++ later)) (emittingTotal g (firstFrame (fs ++ later)) x a) (route ++ more) | false ↦ sumFrom g (fs ++ later) (x ⊕ a.weight) (route ++ more) ])
-        ≡ sumFrom g later (elim b as (λ c. Float) [ true ↦ sumFrom g (tail fs) (emittingTotal g (firstFrame fs) x a) route | false ↦ sumFrom g fs (x ⊕ a.weight) route ]) more
+    go : (b : Bool) → emits a ≡ b → (fs : List Heard) → emitted (a ∷ route) ≡ length fs → ((fs : List Heard) (x : Float) → emitted route ≡ length fs → sum_from g (fs ++ later) x (route ++ more) ≡ sum_from g later (sum_from g fs x route) more)
+        → (elim b as (λ c. Float) [ true ↦ sum_from g (tail (fs ++ later)) (emitting_total g (first_frame (fs ++ later)) x a) (route ++ more) | false ↦ sum_from g (fs ++ later) (x ⊕ a.weight) (route ++ more) ])
+        ≡ sum_from g later (elim b as (λ c. Float) [ true ↦ sum_from g (tail fs) (emitting_total g (first_frame fs) x a) route | false ↦ sum_from g fs (x ⊕ a.weight) route ]) more
     go true q [] e rec = absurd (let z = emits_one a route q in omega arith)
-    go true q (f ∷ fs) e rec = rec fs (emittingTotal g f x a) (let z = emits_one a route q in omega arith)
+    go true q (f ∷ fs) e rec = rec fs (emitting_total g f x a) (let z = emits_one a route q in omega arith)
     go false q fs e rec = rec fs (x ⊕ a.weight) (let z = emits_none a route q in omega arith)
 
 -- ---- one arc more, whichever the pass
 
 -- the frames after an arc of this pass
-abbrev pub heardBy : Pass → List Heard → List Heard
-heardBy (emitting ls off ad) fs = fs ++ (record { loglikes = ls; offset = off } ∷ [])
-heardBy nonemitting fs = fs
+abbrev pub heard_by : Pass → List Heard → List Heard
+heard_by (emitting ls off ad) fs = fs ++ (record { loglikes = ls; offset = off } ∷ [])
+heard_by nonemitting fs = fs
 
-pub not-emits : (a : Arc) → takes nonemitting a ≡ true → emits a ≡ false
-not-emits a e = not-true (emits a) e
+pub not_emits : (a : Arc) → takes nonemitting a ≡ true → emits a ≡ false
+not_emits a e = not-true (emits a) e
 
-emitted-on : (p : Pass) (fs : List Heard) (route : List Arc) (a : Arc) → takes p a ≡ true → emitted route ≡ length fs → emitted (route ++ (a ∷ [])) ≡ length (heardBy p fs)
-emitted-on (emitting ls off ad) fs route a e n = omega (arith, count-append emits route (a ∷ []), emits_one a [] e, length-append fs (record { loglikes = ls; offset = off } ∷ []))
-emitted-on nonemitting fs route a e n = omega (arith, count-append emits route (a ∷ []), emits_none a [] (not-emits a e))
+emitted_on : (p : Pass) (fs : List Heard) (route : List Arc) (a : Arc) → takes p a ≡ true → emitted route ≡ length fs → emitted (route ++ (a ∷ [])) ≡ length (heard_by p fs)
+emitted_on (emitting ls off ad) fs route a e n = omega (arith, count-append emits route (a ∷ []), emits_one a [] e, length-append fs (record { loglikes = ls; offset = off } ∷ []))
+emitted_on nonemitting fs route a e n = omega (arith, count-append emits route (a ∷ []), emits_none a [] (not_emits a e))
 
-pub walk-on : (g : Graph) (p : Pass) (fs : List Heard) (route : List Arc) (s : ℕ) (a : Arc) → takes p a ≡ true → a ∈ arcsOf g s → Walk g fs route s → Walk g (heardBy p fs) (route ++ (a ∷ [])) a.target
-walk-on g p fs route s a e m w =
-    record { begins = w.begins; leads = leads-append g g.start route (a ∷ []) s a.target w.leads (m, refl); frames = emitted-on p fs route a e w.frames }
+pub walk_on : (g : Graph) (p : Pass) (fs : List Heard) (route : List Arc) (s : ℕ) (a : Arc) → takes p a ≡ true → a ∈ arcs_of g s → Walk g fs route s → Walk g (heard_by p fs) (route ++ (a ∷ [])) a.target
+walk_on g p fs route s a e m w =
+    record { begins = w.begins; leads = leads-append g g.start route (a ∷ []) s a.target w.leads (m, refl); frames = emitted_on p fs route a e w.frames }
 
 -- its sum is the arriving total
-pub sum-on : (g : Graph) (p : Pass) (fs : List Heard) (route : List Arc) (t : Token) (a : Arc) → takes p a ≡ true → emitted route ≡ length fs → t.cost ≡ sum_of g fs route → total g p t a ≡ sum_of g (heardBy p fs) (route ++ (a ∷ []))
-unfolding total sumFrom
-sum-on g (emitting ls off ad) fs route t a e n c =
+pub sum_on : (g : Graph) (p : Pass) (fs : List Heard) (route : List Arc) (t : Token) (a : Arc) → takes p a ≡ true → emitted route ≡ length fs → t.cost ≡ sum_of g fs route → total g p t a ≡ sum_of g (heard_by p fs) (route ++ (a ∷ []))
+unfolding total sum_from
+sum_on g (emitting ls off ad) fs route t a e n c =
     let f : Heard = record { loglikes = ls; offset = off } in
-    ap (λ (x : Float). emittingTotal g f x a) c ∙ sym (sum-append g fs (f ∷ []) 0f route (a ∷ []) n ∙ rw (e, sumFrom))
-sum-on g nonemitting fs route t a e n c = ap (λ (x : Float). x ⊕ a.weight) c ∙ sym (ap (λ (l : List Heard). sumFrom g l 0f (route ++ (a ∷ []))) (sym (append-nil fs)) ∙ sum-append g fs [] 0f route (a ∷ []) n ∙ rw (not-emits a e, sumFrom))
+    ap (λ (x : Float). emitting_total g f x a) c ∙ sym (sum-append g fs (f ∷ []) 0f route (a ∷ []) n ∙ rw (e, sum_from))
+sum_on g nonemitting fs route t a e n c = ap (λ (x : Float). x ⊕ a.weight) c ∙ sym (ap (λ (l : List Heard). sum_from g l 0f (route ++ (a ∷ []))) (sym (append-nil fs)) ∙ sum-append g fs [] 0f route (a ∷ []) n ∙ rw (not_emits a e, sum_from))

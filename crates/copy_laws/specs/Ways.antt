@@ -4,20 +4,20 @@ use Rattle.std.proofs.Common.{sym, ap, ap₂, ◌∙◌, add-zero, add-suc}
 use Rattle.std.proofs.Math.Nat.{mod-add-mod}
 use mathlib.Core.List.Memᴰ.{head as here}
 use mathlib.Core.List.Memᴰ.{tail as there}
-use Rattle.lists.specs.Lists.{◌∈◌, keepIf}
+use Rattle.lists.specs.Lists.{◌∈◌, keep_if}
 use Rattle.model.specs.Basics.{◌≺◌, ◌≼◌, ◌⊕◌, 0f, nonzero}
-use Rattle.model.specs.Path.{Merge, Path, emptyPath, arcOn, branchOn, word, withWord}
-use Rattle.model.specs.Hash.{hashWord, hashWords, shiftPast, hash-joined, hashNewestFirst, newest-first}
-use Rattle.model.specs.Readings.{Below, at_start, onTop, byWay, cheapest, below, wordsToJoin}
+use Rattle.model.specs.Path.{Merge, Path, empty_path, arc_on_lem, branch_on, word, with_word}
+use Rattle.model.specs.Hash.{hash_word, hash_words, shift_past, hash_joined, hash_newest_first, newest_first}
+use Rattle.model.specs.Readings.{Below, at_start, on_top, by_way, cheapest, below, words_to_join}
 use Rattle.copy_laws.specs.Below.{below_each}
 
 -- ---- the Rust's form
 
 -- the path from its first join down, the start where it has none
-unfoldable pub downToJoin : Path → Path
-downToJoin emptyPath = emptyPath
-downToJoin (arcOn x p) = downToJoin p
-downToJoin (branchOn m k p) = branchOn m k p
+unfoldable pub down_to_join : Path → Path
+down_to_join empty_path = empty_path
+down_to_join (arc_on_lem x p) = down_to_join p
+down_to_join (branch_on m k p) = branch_on m k p
 
 -- the Rust's `Way`: a stretch of words, newest first, and what it costs; and the branch whose kept path it takes, if any
 pub record Way : Type 0 where
@@ -29,58 +29,58 @@ pub record Way : Type 0 where
   pub via : List ℕ
 
 unfoldable pub way_of : (cost graph : Float) → (via : List ℕ) → (words : List ℤ) → Way
-way_of c gr via ws = let h = hashNewestFirst 0 1 ws in record { hash = h.0; shift = h.1; len = length ws; cost = c; graph = gr; via = via }
+way_of c gr via ws = let h = hash_newest_first 0 1 ws in record { hash = h.0; shift = h.1; len = length ws; cost = c; graph = gr; via = via }
 
 -- an entry of the next join's list, reached by this way: both sums wrap
-unfoldable pub downWay : Way → Below → Below
-downWay w b = record { hash = (b.hash * w.shift % 2 ^ 64 + w.hash) % 2 ^ 64; len = b.len + w.len; cost = w.cost ⊕ b.cost; graph = w.graph ⊕ b.graph; route = w.via ++ b.route }
+unfoldable pub down_way : Way → Below → Below
+down_way w b = record { hash = (b.hash * w.shift % 2 ^ 64 + w.hash) % 2 ^ 64; len = b.len + w.len; cost = w.cost ⊕ b.cost; graph = w.graph ⊕ b.graph; route = w.via ++ b.route }
 
 -- What the Rust's `fill_below` puts down for a join. It sorts by `total_cmp`, which is `≺` here: no such cost is a NaN or −0 (`Bounds`).
-unfoldable pub fillBelow : (margin : Float) → (cap : ℕ) → Merge → (kept own : Path) → List Below
-fillBelow margin cap m k p =
-    let owns = map (downWay (way_of 0f 0f [] (wordsToJoin p))) (below margin cap (downToJoin p)) in
-    let kepts = cond (m.cost ≼ margin) (map (downWay (way_of m.cost m.graph (m.number ∷ []) (wordsToJoin k))) (below margin cap (downToJoin k))) [] in
-    cheapest cap (keepIf (λ (b : Below). not (margin ≺ b.cost)) (owns ++ kepts))
+unfoldable pub fill_below : (margin : Float) → (cap : ℕ) → Merge → (kept own : Path) → List Below
+fill_below margin cap m k p =
+    let owns = map (down_way (way_of 0f 0f [] (words_to_join p))) (below margin cap (down_to_join p)) in
+    let kepts = cond (m.cost ≼ margin) (map (down_way (way_of m.cost m.graph (m.number ∷ []) (words_to_join k))) (below margin cap (down_to_join k))) [] in
+    cheapest cap (keep_if (λ (b : Below). not (margin ≺ b.cost)) (owns ++ kepts))
 
 -- the key of an entry, with the words above the join put on: the Rust's `above_hash` and `shift`
-unfoldable pub withWordsOn : (words : List ℤ) → Below → Below
-withWordsOn ws b = let h = hashNewestFirst 0 1 ws in record { hash = (b.hash * h.1 % 2 ^ 64 + h.0) % 2 ^ 64; len = b.len + length ws; cost = b.cost; graph = b.graph; route = b.route }
+unfoldable pub with_words_on : (words : List ℤ) → Below → Below
+with_words_on ws b = let h = hash_newest_first 0 1 ws in record { hash = (b.hash * h.1 % 2 ^ 64 + h.0) % 2 ^ 64; len = b.len + length ws; cost = b.cost; graph = b.graph; route = b.route }
 
 -- ---- every entry's hash is that of some words
 
-below-hashed : (margin : Float) (cap : ℕ) (p : Path) (b : Below) → b ∈ below margin cap p → (ws : List ℤ) × (b.hash ≡ hashWords ws)
-unfolding hashWords onTop byWay
-below-hashed margin cap =
-    below_each margin cap (λ p b. (ws : List ℤ) × (b.hash ≡ hashWords ws))
+below_hashed : (margin : Float) (cap : ℕ) (p : Path) (b : Below) → b ∈ below margin cap p → (ws : List ℤ) × (b.hash ≡ hash_words ws)
+unfolding hash_words on_top by_way
+below_hashed margin cap =
+    below_each margin cap (λ p b. (ws : List ℤ) × (b.hash ≡ hash_words ws))
     (record { start = ([], refl); arc = λ x p b r. on (word x) b (nonzero (word x)) r; own = λ m k p b e r. r; kept = λ m k p b q e r. r })
   where
-    on : (w : ℤ) (b : Below) (c : Bool) → (ws : List ℤ) × (b.hash ≡ hashWords ws) → (ws : List ℤ) × ((cond c (record { hash = hashWord w b.hash; len = suc b.len; cost = b.cost; graph = b.graph; route = b.route }) b).hash ≡ hashWords ws)
-    on w b true r = (w ∷ r.0, ap (hashWord w) r.1)
+    on : (w : ℤ) (b : Below) (c : Bool) → (ws : List ℤ) × (b.hash ≡ hash_words ws) → (ws : List ℤ) × ((cond c (record { hash = hash_word w b.hash; len = suc b.len; cost = b.cost; graph = b.graph; route = b.route }) b).hash ≡ hash_words ws)
+    on w b true r = (w ∷ r.0, ap (hash_word w) r.1)
     on w b false r = r
 
-stretch-hash : (ws older : List ℤ) (b : Below) → b.hash ≡ hashWords older → (withWordsOn ws b).hash ≡ hashWords (ws ++ older)
-unfolding withWordsOn
-stretch-hash ws older b e =
-    ap (λ (h : ℕ × ℕ). (b.hash * h.1 % 2 ^ 64 + h.0) % 2 ^ 64) (newest-first ws) ∙ mod-add-mod (b.hash * shiftPast ws) (2 ^ 64) (hashWords ws) ∙
-    ap (λ (x : ℕ). (x * shiftPast ws + hashWords ws) % 2 ^ 64) e ∙ sym (hash-joined ws older)
+stretch_hash : (ws older : List ℤ) (b : Below) → b.hash ≡ hash_words older → (with_words_on ws b).hash ≡ hash_words (ws ++ older)
+unfolding with_words_on
+stretch_hash ws older b e =
+    ap (λ (h : ℕ × ℕ). (b.hash * h.1 % 2 ^ 64 + h.0) % 2 ^ 64) (newest_first ws) ∙ mod-add-mod (b.hash * shift_past ws) (2 ^ 64) (hash_words ws) ∙
+    ap (λ (x : ℕ). (x * shift_past ws + hash_words ws) % 2 ^ 64) e ∙ sym (hash_joined ws older)
 
 -- an entry with another key
 abbrev keyed : Below → (hash len : ℕ) → Below
 keyed b h l = record { hash = h; len = l; cost = b.cost; graph = b.graph; route = b.route }
 
-same_key : (b : Below) (h h' l l' : ℕ) → h ≡ h' → l ≡ l' → keyed b h l ≡ keyed b h' l'
-same_key b h h' l l' p q = ap₂ (keyed b) p q
+same_key_lem : (b : Below) (h h' l l' : ℕ) → h ≡ h' → l ≡ l' → keyed b h l ≡ keyed b h' l'
+same_key_lem b h h' l l' p q = ap₂ (keyed b) p q
 
-no_words : (b : Below) (older : List ℤ) → b.hash ≡ hashWords older → withWordsOn [] b ≡ b
-unfolding withWordsOn
-no_words b older e = same_key b _ b.hash _ b.len (stretch-hash [] older b e ∙ sym e) (add-zero b.len)
+no_words : (b : Below) (older : List ℤ) → b.hash ≡ hash_words older → with_words_on [] b ≡ b
+unfolding with_words_on
+no_words b older e = same_key_lem b _ b.hash _ b.len (stretch_hash [] older b e ∙ sym e) (add-zero b.len)
 
-one_more : (w : ℤ) (ws : List ℤ) (b : Below) (older : List ℤ) → b.hash ≡ hashWords older → onTop w (withWordsOn ws b) ≡ withWordsOn (withWord w ws) b
-unfolding onTop withWordsOn hashWords
+one_more : (w : ℤ) (ws : List ℤ) (b : Below) (older : List ℤ) → b.hash ≡ hash_words older → on_top w (with_words_on ws b) ≡ with_words_on (with_word w ws) b
+unfolding on_top with_words_on hash_words
 one_more w ws b older e = go (nonzero w)
   where
-    go : (c : Bool) → cond c (keyed b (hashWord w (withWordsOn ws b).hash) (suc (b.len + length ws))) (withWordsOn ws b) ≡ withWordsOn (cond c (w ∷ ws) ws) b
-    go true = same_key b (hashWord w (withWordsOn ws b).hash) (withWordsOn (w ∷ ws) b).hash (suc (b.len + length ws)) (b.len + suc (length ws)) (ap (hashWord w) (stretch-hash ws older b e) ∙ sym (stretch-hash (w ∷ ws) older b e)) (sym (add-suc b.len (length ws)))
+    go : (c : Bool) → cond c (keyed b (hash_word w (with_words_on ws b).hash) (suc (b.len + length ws))) (with_words_on ws b) ≡ with_words_on (cond c (w ∷ ws) ws) b
+    go true = same_key_lem b (hash_word w (with_words_on ws b).hash) (with_words_on (w ∷ ws) b).hash (suc (b.len + length ws)) (b.len + suc (length ws)) (ap (hash_word w) (stretch_hash ws older b e) ∙ sym (stretch_hash (w ∷ ws) older b e)) (sym (add-suc b.len (length ws)))
     go false = refl
 
 -- ---- both forms are one
@@ -89,32 +89,32 @@ map_same : {A B : Type 0} (f h : A → B) (xs : List A) → ((x : A) → x ∈ x
 map_same f h [] e = refl
 map_same f h (x ∷ xs) e = ap₂ ◌∷◌ (e x (here refl)) (map_same f h xs (λ y m. e y (there m)))
 
-map-map : {A B C : Type 0} (f : B → C) (h : A → B) (xs : List A) → map f (map h xs) ≡ map (λ x. f (h x)) xs
-map-map f h [] = refl
-map-map f h (x ∷ xs) = ap (λ (l : List _). f (h x) ∷ l) (map-map f h xs)
+map_map : {A B C : Type 0} (f : B → C) (h : A → B) (xs : List A) → map f (map h xs) ≡ map (λ x. f (h x)) xs
+map_map f h [] = refl
+map_map f h (x ∷ xs) = ap (λ (l : List _). f (h x) ∷ l) (map_map f h xs)
 
-map-id : {A : Type 0} (f : A → A) (xs : List A) → ((x : A) → x ∈ xs → f x ≡ x) → map f xs ≡ xs
-map-id f [] e = refl
-map-id f (x ∷ xs) e = ap₂ ◌∷◌ (e x (here refl)) (map-id f xs (λ y m. e y (there m)))
+map_id : {A : Type 0} (f : A → A) (xs : List A) → ((x : A) → x ∈ xs → f x ≡ x) → map f xs ≡ xs
+map_id f [] e = refl
+map_id f (x ∷ xs) e = ap₂ ◌∷◌ (e x (here refl)) (map_id f xs (λ y m. e y (there m)))
 
 -- From any place: the list of the next join, with the words above it put on.
-pub below-down : (margin : Float) (cap : ℕ) (p : Path) → below margin cap p ≡ map (withWordsOn (wordsToJoin p)) (below margin cap (downToJoin p))
-unfolding below downToJoin
-below-down margin cap emptyPath = sym (map-id (withWordsOn []) (at_start ∷ []) (λ b m. let r = below-hashed margin cap emptyPath b m in no_words b r.0 r.1))
-below-down margin cap (arcOn x p) =
-    let bs = below margin cap (downToJoin p) in
-    let ws = wordsToJoin p in
-    ap (map (onTop (word x))) (below-down margin cap p) ∙ map-map (onTop (word x)) (withWordsOn ws) bs ∙
-    map_same (λ b. onTop (word x) (withWordsOn ws b)) (withWordsOn (withWord (word x) ws)) bs (λ b m. let r = below-hashed margin cap (downToJoin p) b m in one_more (word x) ws b r.0 r.1)
-below-down margin cap (branchOn m k p) = sym (map-id (withWordsOn []) (below margin cap (branchOn m k p)) (λ b i. let r = below-hashed margin cap (branchOn m k p) b i in no_words b r.0 r.1))
+pub below_down : (margin : Float) (cap : ℕ) (p : Path) → below margin cap p ≡ map (with_words_on (words_to_join p)) (below margin cap (down_to_join p))
+unfolding below down_to_join
+below_down margin cap empty_path = sym (map_id (with_words_on []) (at_start ∷ []) (λ b m. let r = below_hashed margin cap empty_path b m in no_words b r.0 r.1))
+below_down margin cap (arc_on_lem x p) =
+    let bs = below margin cap (down_to_join p) in
+    let ws = words_to_join p in
+    ap (map (on_top (word x))) (below_down margin cap p) ∙ map_map (on_top (word x)) (with_words_on ws) bs ∙
+    map_same (λ b. on_top (word x) (with_words_on ws b)) (with_words_on (with_word (word x) ws)) bs (λ b m. let r = below_hashed margin cap (down_to_join p) b m in one_more (word x) ws b r.0 r.1)
+below_down margin cap (branch_on m k p) = sym (map_id (with_words_on []) (below margin cap (branch_on m k p)) (λ b i. let r = below_hashed margin cap (branch_on m k p) b i in no_words b r.0 r.1))
 
-way-right : (margin : Float) (cap : ℕ) (c gr : Float) (via : List ℕ) (p : Path) → map (byWay c gr via) (below margin cap p) ≡ map (downWay (way_of c gr via (wordsToJoin p))) (below margin cap (downToJoin p))
-unfolding byWay withWordsOn downWay way_of
-way-right margin cap c gr via p = ap (map (byWay c gr via)) (below-down margin cap p) ∙ map-map (byWay c gr via) (withWordsOn (wordsToJoin p)) (below margin cap (downToJoin p))
+way_right : (margin : Float) (cap : ℕ) (c gr : Float) (via : List ℕ) (p : Path) → map (by_way c gr via) (below margin cap p) ≡ map (down_way (way_of c gr via (words_to_join p))) (below margin cap (down_to_join p))
+unfolding by_way with_words_on down_way way_of
+way_right margin cap c gr via p = ap (map (by_way c gr via)) (below_down margin cap p) ∙ map_map (by_way c gr via) (with_words_on (words_to_join p)) (below margin cap (down_to_join p))
 
 -- At a join: what the Rust's `fill_below` puts down.
-pub fill-right : (margin : Float) (cap : ℕ) (m : Merge) (k p : Path) → below margin cap (branchOn m k p) ≡ fillBelow margin cap m k p
-unfolding below fillBelow
-fill-right margin cap m k p =
-    ap₂ (λ (owns kepts : List Below). cheapest cap (keepIf (λ (b : Below). not (margin ≺ b.cost)) (owns ++ kepts))) (way-right margin cap 0f 0f [] p)
-    (ap (λ (bs : List Below). cond (m.cost ≼ margin) bs []) (way-right margin cap m.cost m.graph (m.number ∷ []) k))
+pub fill_right : (margin : Float) (cap : ℕ) (m : Merge) (k p : Path) → below margin cap (branch_on m k p) ≡ fill_below margin cap m k p
+unfolding below fill_below
+fill_right margin cap m k p =
+    ap₂ (λ (owns kepts : List Below). cheapest cap (keep_if (λ (b : Below). not (margin ≺ b.cost)) (owns ++ kepts))) (way_right margin cap 0f 0f [] p)
+    (ap (λ (bs : List Below). cond (m.cost ≼ margin) bs []) (way_right margin cap m.cost m.graph (m.number ∷ []) k))

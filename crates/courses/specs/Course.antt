@@ -2,7 +2,7 @@
 use Rattle.std.specs.Prelude.{◌≡◌, refl, ℕ, ◌+◌, ◌*◌, ◌/◌, ◌%◌, ◌^◌, ◌≤◌, ◌<◌, Bool, true, false, ◌||◌, cond, ltb}
 use Rattle.std.proofs.Common.{arith, div-add-mod', mod-lt, mod-eq_of_lt, mul-le-mul, mul-le-mul_right, lt_of_mul-lt-mul_right, ltb-false}
 use Rattle.std.proofs.Math.Nat.{mul-add-div_right, mul-add-mod_self_right, div-eq_of_lt}
-use Rattle.lists.specs.Tests.{or-neither}
+use Rattle.lists.specs.Tests.{or_neither}
 use Rattle.courses.specs.declared.Course.{Course}
 use Rattle.courses.specs.declared.Course.TheVariants.{At, Refused}
 
@@ -13,8 +13,8 @@ outside n = ltb n 1 || ltb 65_535 n
 abbrev pub wrong : (frame courses frames : ℕ) → Bool
 wrong frame courses frames = outside courses || outside frames || ltb 65_536 frame
 
-abbrev pub courseAt : (frame courses frames : ℕ) → Course
-courseAt frame courses frames = cond (wrong frame courses frames) (Refused 22) (At (frame * courses / frames) (frame * courses % frames))
+abbrev pub course_at : (frame courses frames : ℕ) → Course
+course_at frame courses frames = cond (wrong frame courses frames) (Refused 22) (At (frame * courses / frames) (frame * courses % frames))
 
 -- an answer that is no refusal
 answered : (w : Bool) {c r course remainder : ℕ} → cond w (Refused 22) (At c r) ≡ At course remainder → (w ≡ false) × (c ≡ course) × (r ≡ remainder)
@@ -25,20 +25,20 @@ module _ (courses frames : ℕ) where
   -- what is not refused: the product is at most 65,536 × 65,535 and so fits 32 bits, and there is something to divide it by
   pub within : (frame : ℕ) → wrong frame courses frames ≡ false → (frame * courses < 2 ^ 32) × (0 < frames)
   within frame w =
-      let (a, b) = or-neither (outside courses || outside frames) (ltb 65_536 frame) w in
-      let (c, d) = or-neither (outside courses) (outside frames) a in
-      let h = mul-le-mul (ltb-false 65_536 frame b) (ltb-false 65_535 courses (or-neither (ltb courses 1) (ltb 65_535 courses) c).1) in
-      (omega arith, ltb-false frames 1 (or-neither (ltb frames 1) (ltb 65_535 frames) d).0)
+      let (a, b) = or_neither (outside courses || outside frames) (ltb 65_536 frame) w in
+      let (c, d) = or_neither (outside courses) (outside frames) a in
+      let h = mul-le-mul (ltb-false 65_536 frame b) (ltb-false 65_535 courses (or_neither (ltb courses 1) (ltb 65_535 courses) c).1) in
+      (omega arith, ltb-false frames 1 (or_neither (ltb frames 1) (ltb 65_535 frames) d).0)
 
   -- the two numbers make up frame × courses, and the remainder is below frames
-  pub parts : (frame course remainder : ℕ) → courseAt frame courses frames ≡ At course remainder → (course * frames + remainder ≡ frame * courses) × (remainder < frames)
+  pub parts : (frame course remainder : ℕ) → course_at frame courses frames ≡ At course remainder → (course * frames + remainder ≡ frame * courses) × (remainder < frames)
   parts frame course remainder e =
       let (w, q, m) = answered (wrong frame courses frames) e in
       rw (← q, ← m) (div-add-mod' (frame * courses) frames, mod-lt (frame * courses) (within frame w).1)
 
   -- and no other two do
   pub only : (frame course remainder : ℕ) → wrong frame courses frames ≡ false → course * frames + remainder ≡ frame * courses → remainder < frames
-      → courseAt frame courses frames ≡ At course remainder
+      → course_at frame courses frames ≡ At course remainder
   only frame course remainder w e h =
       let q : frame * courses / frames ≡ course = rw (← e, mul-add-div_right (within frame w).1, div-eq_of_lt h) (omega arith) in
       let m : frame * courses % frames ≡ remainder = rw (← e, mul-add-mod_self_right, mod-eq_of_lt h) in
@@ -46,7 +46,7 @@ module _ (courses frames : ℕ) where
 
   -- a later frame never has a lower course
   pub later : (frame frame' course course' remainder remainder' : ℕ)
-      → courseAt frame courses frames ≡ At course remainder → courseAt frame' courses frames ≡ At course' remainder' → frame ≤ frame' → course ≤ course'
+      → course_at frame courses frames ≡ At course remainder → course_at frame' courses frames ≡ At course' remainder' → frame ≤ frame' → course ≤ course'
   later frame frame' course course' remainder remainder' e e' h =
       let (p, q) = parts frame course remainder e in
       let (p', q') = parts frame' course' remainder' e' in

@@ -1,6 +1,6 @@
 // The course on the needles at a frame, where a number of courses pass in a number of frames.
 ghost use Rattle.std.specs.Prelude.{◌≡◌, ◌/◌, ◌%◌, ◌<◌};
-ghost use Rattle.courses.specs.Course.{courseAt};
+ghost use Rattle.courses.specs.Course.{course_at};
 
 // The course and the remainder, or the number of the refusal.
 #[derive(Drop)]
@@ -11,7 +11,7 @@ pub enum Course {
 
 // The course is the whole part of frame × courses / frames. The product needs no wider type: what is not refused makes at most 65,536 × 65,535, which is below 2^32 (`within`).
 pub fn course_at(frame: u32, courses: u32, frames: u32) -> Course
-    ensures { result ≡ courseAt frame courses frames }
+    ensures { result ≡ course_at frame courses frames }
 {
     if courses < 1
         || refusals::MAX_COURSES < courses

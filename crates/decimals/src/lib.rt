@@ -2,7 +2,7 @@
 ghost use Rattle.std.specs.Prelude.{◌≡◌, ◌+◌, ◌≤◌, ◌<◌, length};
 ghost use Rattle.decimals.specs.Decimal.{decimal, IsNumber};
 ghost use Rattle.decimals.specs.Stored.{Stored};
-ghost use Rattle.decimals.specs.Numbers.{grownBy, outside, next_of, numbersIn};
+ghost use Rattle.decimals.specs.Numbers.{grown_by, outside, next_of, numbers_in};
 
 // Writes the digits of a number from a place on, and gives the place behind them.
 pub fn write_decimal(number: u32, out: &mut [u8], at: usize) -> usize
@@ -52,7 +52,7 @@ pub struct Numbers {
 // The number with one digit more. One that would pass a u32 stays as it is.
 fn grown(number: u32, digit: u32) -> u32
     requires { digit < 10 }
-    ensures { result ≡ grownBy number digit }
+    ensures { result ≡ grown_by number digit }
 {
     let more = 10 * number as u64 + digit as u64;
     if more < 0x1_0000_0000 {
@@ -104,7 +104,7 @@ impl Numbers {
 
 // A run that would pass a u32 counts as some number.
 pub fn numbers_in(bytes: &[u8]) -> Numbers
-    ensures { result ≡ numbersIn bytes.now }
+    ensures { result ≡ numbers_in bytes.now }
 {
     let mut found = Numbers {
         inside: false,

@@ -2,32 +2,32 @@
 use Rattle.std.specs.Prelude.{◌≡◌, ◌⊎◌, ℕ, ◌*◌, ◌/◌, ◌≤◌, ◌<◌, Bool, cond, List, [], ◌∷◌, ◌++◌, ℤ, length, drop, Float}
 use Rattle.std.proofs.Math.Option.{none, some}
 use Rattle.model.specs.Basics.{0f, Refusal as ModelRefusal}
-use Rattle.model.specs.Graph.{Graph, states, checkGraph}
+use Rattle.model.specs.Graph.{Graph, states, check_graph}
 use Rattle.model.specs.Path.{Limits}
 use Rattle.model.specs.Cutoff.{Config as Settings}
-use Rattle.model.specs.Passes.{State, fitted, fairMargin, checkFit}
-use Rattle.model.specs.Calls.{Call, startCall, frameCall, readCall, bestPathRead, alternativesRead, readingsRead, relativeCostRead, numActiveRead, countAnswer, costAnswer, call}
+use Rattle.model.specs.Passes.{State, fitted, fair_margin, check_fit}
+use Rattle.model.specs.Calls.{Call, start_call, frame_call, read_call, best_path_read, alternatives_read, readings_read, relative_cost_read, num_active_read, count_answer, cost_answer, call}
 use Rattle.copy_laws.specs.Walks.{Heard}
 use Rattle.cutoff.specs.declared.Config.{Config}
-use Rattle.cutoff.specs.Costs.{configOf}
+use Rattle.cutoff.specs.Costs.{config_of}
 use Rattle.stores.specs.Lent.{LeftToProgram, Used}
 use Rattle.stores.specs.Rep.{Lent, Lens, lent}
 use Rattle.refusals.specs.declared.Refusal.{Refusal}
 use Rattle.refusals.specs.declared.Place.TheVariants.{Nowhere, AtFrames}
-use Rattle.fst.specs.Answer.{refusalOf}
-use Rattle.fst.specs.Epsilons.{epsBits}
+use Rattle.fst.specs.Answer.{refusal_of}
+use Rattle.fst.specs.Epsilons.{eps_bits}
 use Rattle.arcs.specs.State.{Tables}
 use Rattle.checks.specs.declared.Lengths.{Lengths}
-use Rattle.checks.specs.Fit.{Wide, recordPlaces, perRecord, keptPlacesOf, perKept, places_of}
-use Rattle.checks.specs.Frame.{frameNumber}
+use Rattle.checks.specs.Fit.{Wide, record_places, per_record_lem, kept_places_of, per_kept_lem, places_of}
+use Rattle.checks.specs.Frame.{frame_number}
 use Rattle.checks.specs.Margin.{asked}
 use Rattle.traceback.specs.declared.BestPath.{BestPath}
-use Rattle.traceback.specs.Right.{Parts, places_of as placesFor, bestAs, BestKeeps}
+use Rattle.traceback.specs.Right.{Parts, places_of as places_for, best_as, BestKeeps}
 use Rattle.readings.specs.declared.Listed.{Listed}
-use Rattle.readings.specs.Paths.{Outputs, placesIn}
+use Rattle.readings.specs.Paths.{Outputs, places_in}
 use Rattle.readings.specs.Right.{ListedIs, Scratch, ScratchLeft}
 use Rattle.reading_list.specs.declared.ReadingList.{ReadingList}
-use Rattle.reading_list.specs.Outputs.{Outputs as Lists, placesIn as listPlaces}
+use Rattle.reading_list.specs.Outputs.{Outputs as Lists, places_in as output_places}
 use Rattle.reading_list.specs.Right.{ReadingsAre}
 use Rattle.reading_list.specs.Scratch.{Scratch as ListScratch, ScratchLeft as ListScratchLeft}
 use Rattle.decoder.specs.declared.Decoder.{Decoder}
@@ -59,7 +59,7 @@ Promised T m m' eps places k d r =
     (g : Graph) (c : Settings) (l : Limits) (fs : List Heard) (st : State) → Represents g c l T m eps places d fs st → CalledBy g c l T m' eps places (call g c l k st) r
 
 pub record StartIs (T : Tables) (m m' : Lent) (qs qs' eps : List ℕ) (d : Decoder) (r : Called) : Type 0 where
-  pub answer : Promised T m m' eps (length qs) startCall d r
+  pub answer : Promised T m m' eps (length qs) start_call d r
   pub lent : Worked d.graph.states d.cap m m' qs qs'
 
 -- refused by 8 to 10, a frame touches nothing
@@ -70,35 +70,35 @@ pub record Untouched (n : ℕ) (m m' : Lent) (qs qs' : List ℕ) (sc sc' : List 
   pub scratch : sc' ≡ sc
 
 pub record FrameIs (T : Tables) (m m' : Lent) (qs qs' : List ℕ) (sc sc' : List Float) (eps : List ℕ) (loglikes : List Float) (d : Decoder) (r : Called) : Type 0 where
-  pub answer : Promised T m m' eps (length qs) (frameCall loglikes) d r
+  pub answer : Promised T m m' eps (length qs) (frame_call loglikes) d r
   pub lent : Worked d.graph.states d.cap m m' qs qs'
   pub scratch : LeftToProgram sc sc'
-  pub untouched : let n = frameNumber loglikes d.frames d.graph.pdfs in (n ≡ 0 → ⊥) → Untouched n m m' qs qs' sc sc' d r
+  pub untouched : let n = frame_number loglikes d.frames d.graph.pdfs in (n ≡ 0 → ⊥) → Untouched n m m' qs qs' sc sc' d r
 
 -- the value with another margin; without one it is 0
-abbrev pub withMargin : Decoder → Bool → Float → Decoder
-withMargin d keeps x = record { graph = d.graph; config = d.config; cap = d.cap; keeps = keeps; margin = cond keeps x 0f; side = d.side; frames = d.frames; seq = d.seq; used = d.used }
+abbrev pub with_margin : Decoder → Bool → Float → Decoder
+with_margin d keeps x = record { graph = d.graph; config = d.config; cap = d.cap; keeps = keeps; margin = cond keeps x 0f; side = d.side; frames = d.frames; seq = d.seq; used = d.used }
 
 abbrev pub unfit : Refusal
 unfit = record { number = 6; place = Nowhere }
 
 -- of any value: 6 leaves it as it was
-abbrev pub keepOf : Decoder → (keeps : Bool) → Float → Called
-keepOf d keeps x = cond (fairMargin (asked keeps x)) (Done (withMargin d keeps x)) (Refused d unfit)
+abbrev pub keep_of : Decoder → (keeps : Bool) → Float → Called
+keep_of d keeps x = cond (fair_margin (asked keeps x)) (Done (with_margin d keeps x)) (Refused d unfit)
 
 -- ---- the fitter
 
-abbrev pub fittedBy : Called → Fitted
-fittedBy (Done d) = FitDone d
-fittedBy (Refused d f) = FitRefused d f
+abbrev pub fitted_by : Called → Fitted
+fitted_by (Done d) = FitDone d
+fitted_by (Refused d f) = FitRefused d f
 
 -- A graph or settings that are refused, and nothing has changed; or the answer of the fitting's own start, with the places of the record store and the queue as limits.
 pub data FitIs (g : Graph) (T : Tables) (m m' : Lent) (l : Lengths) (qs qs' eps eps' : List ℕ) (c : Config) : Fitted → Type 0 where
-  fitGraph : (w : ModelRefusal) → checkGraph g ≡ some w → m' ≡ m → qs' ≡ qs → eps' ≡ eps → FitIs g T m m' l qs qs' eps eps' c (Unfit (refusalOf w))
-  fitUnfit : checkGraph g ≡ none → checkFit g (configOf c) (places_of (states g) l) ≡ some 6 → m' ≡ m → qs' ≡ qs → eps' ≡ eps → FitIs g T m m' l qs qs' eps eps' c (Unfit unfit)
-  fitCalled : {r : Called} → checkGraph g ≡ none → checkFit g (configOf c) (places_of (states g) l) ≡ none
-      → ((lim : Limits) → LimitsAre lim (recordPlaces l) (length qs) → CalledBy g (configOf c) lim T m' eps' (length qs) (call g (configOf c) lim startCall (fitted g)) r)
-      → Worked (states g) (recordPlaces l) m m' qs qs' → eps' ≡ epsBits g (states g) ++ drop (states g) eps → FitIs g T m m' l qs qs' eps eps' c (fittedBy r)
+  fit_graph : (w : ModelRefusal) → check_graph g ≡ some w → m' ≡ m → qs' ≡ qs → eps' ≡ eps → FitIs g T m m' l qs qs' eps eps' c (Unfit (refusal_of w))
+  fit_unfit : check_graph g ≡ none → check_fit g (config_of c) (places_of (states g) l) ≡ some 6 → m' ≡ m → qs' ≡ qs → eps' ≡ eps → FitIs g T m m' l qs qs' eps eps' c (Unfit unfit)
+  fit_called : {r : Called} → check_graph g ≡ none → check_fit g (config_of c) (places_of (states g) l) ≡ none
+      → ((lim : Limits) → LimitsAre lim (record_places l) (length qs) → CalledBy g (config_of c) lim T m' eps' (length qs) (call g (config_of c) lim start_call (fitted g)) r)
+      → Worked (states g) (record_places l) m m' qs qs' → eps' ≡ eps_bits g (states g) ++ drop (states g) eps → FitIs g T m m' l qs qs' eps eps' c (fitted_by r)
 
 -- ---- what a call asks: decoder and stores as the last call left them, and slices as long as at the fitting
 
@@ -129,7 +129,7 @@ pub record ActiveLeft (tk : List ℕ) (d : Decoder) : Type 0 where
 -- a read with final weights
 pub record FinalsLeft (tk : List ℕ) (sm : List Float) (rs : List ℕ) (ls : List ℤ) (finals : List Float) (d : Decoder) : Type 0 where
   pub left : LeftOf tk sm rs ls d
-  pub finals-are : left.g.finals ≡ finals
+  pub finals_are : left.g.finals ≡ finals
 
 pub record RelativeLeft (tk : List ℕ) (sm finals : List Float) (d : Decoder) : Type 0 where
   pub records : List ℕ
@@ -137,10 +137,10 @@ pub record RelativeLeft (tk : List ℕ) (sm finals : List Float) (d : Decoder) :
   pub left : FinalsLeft tk sm records labels finals d
 
 -- a read that works in slices of these lengths, and of these places per record
-pub record AlternativesLeft (tk : List ℕ) (sm : List Float) (rs : List ℕ) (ls : List ℤ) (finals : List Float) (scratch perRecord : List ℕ) (d : Decoder) : Type 0 where
+pub record AlternativesLeft (tk : List ℕ) (sm : List Float) (rs : List ℕ) (ls : List ℤ) (finals : List Float) (scratch per_record_lem : List ℕ) (d : Decoder) : Type 0 where
   pub left : FinalsLeft tk sm rs ls finals d
   pub wide : Wide d.graph.states scratch
-  pub wide-records : Wide d.cap perRecord
+  pub wide_records : Wide d.cap per_record_lem
 
 -- as for a read with final weights, but that the gaps are lent too
 pub record GapsLeft (tk : List ℕ) (sm : List Float) (rs : List ℕ) (ls : List ℤ) (gs finals : List Float) (d : Decoder) : Type 0 where
@@ -148,14 +148,14 @@ pub record GapsLeft (tk : List ℕ) (sm : List Float) (rs : List ℕ) (ls : List
   pub eps : List ℕ
   pub places : ℕ
   pub left : Left T (lent tk sm rs ls gs) eps places d
-  pub finals-are : left.g.finals ≡ finals
+  pub finals_are : left.g.finals ≡ finals
 
 -- and it works in slices of these places per kept reading
-pub record ReadingsLeft (tk : List ℕ) (sm : List Float) (rs : List ℕ) (ls : List ℤ) (gs finals : List Float) (scratch perRecord : List ℕ) (kept : ℕ) (perKept : List ℕ) (d : Decoder) : Type 0 where
+pub record ReadingsLeft (tk : List ℕ) (sm : List Float) (rs : List ℕ) (ls : List ℤ) (gs finals : List Float) (scratch per_record_lem : List ℕ) (kept : ℕ) (per_kept_lem : List ℕ) (d : Decoder) : Type 0 where
   pub left : GapsLeft tk sm rs ls gs finals d
   pub wide : Wide d.graph.states scratch
-  pub wide-records : Wide d.cap perRecord
-  pub wide-kept : Wide kept perKept
+  pub wide_records : Wide d.cap per_record_lem
+  pub wide_kept : Wide kept per_kept_lem
 
 -- all of this at once, with slices of these lengths
 pub record Asked (T : Tables) (m : Lent) (finals : List Float) (eps : List ℕ) (places : ℕ) (l : Lengths) (d : Decoder) : Type 0 where
@@ -165,24 +165,24 @@ pub record Asked (T : Tables) (m : Lent) (finals : List Float) (eps : List ℕ) 
   pub relative : RelativeLeft m.tokens m.sums finals d
   pub best : FinalsLeft m.tokens m.sums m.records m.labels finals d
   pub alternatives : AlternativesLeft m.tokens m.sums m.records m.labels finals (l.keys ∷ l.places ∷ l.own ∷ []) (l.history_keys / 2 ∷ l.history_skips / 2 ∷ []) d
-  pub readings : ReadingsLeft m.tokens m.sums m.records m.labels m.gaps finals (l.keys ∷ l.places ∷ l.own ∷ l.heads ∷ l.list ∷ []) (perRecord l) (keptPlacesOf l) (perKept d.graph.states l) d
+  pub readings : ReadingsLeft m.tokens m.sums m.records m.labels m.gaps finals (l.keys ∷ l.places ∷ l.own ∷ l.heads ∷ l.list ∷ []) (per_record_lem l) (kept_places_of l) (per_kept_lem d.graph.states l) d
 
 -- ---- the reads
 
 abbrev pub ActiveIs : List ℕ → Decoder → ℕ → Type 0
 ActiveIs tk d r =
-    (sm : List Float) (rs : List ℕ) (ls : List ℤ) (L : LeftOf tk sm rs ls d) → (call L.g L.c L.l (readCall numActiveRead) L.st).answer ≡ countAnswer r
+    (sm : List Float) (rs : List ℕ) (ls : List ℤ) (L : LeftOf tk sm rs ls d) → (call L.g L.c L.l (read_call num_active_read) L.st).answer ≡ count_answer r
 
 abbrev pub RelativeCostIs : (tk : List ℕ) (sm finals : List Float) → Decoder → Float → Type 0
-RelativeCostIs tk sm finals d r = (rs : List ℕ) (ls : List ℤ) (F : FinalsLeft tk sm rs ls finals d) → let L = F.left in (call L.g L.c L.l (readCall relativeCostRead) L.st).answer ≡ costAnswer r
+RelativeCostIs tk sm finals d r = (rs : List ℕ) (ls : List ℤ) (F : FinalsLeft tk sm rs ls finals d) → let L = F.left in (call L.g L.c L.l (read_call relative_cost_read) L.st).answer ≡ cost_answer r
 
-abbrev pub BestPathIs : (tk : List ℕ) (sm : List Float) (rs : List ℕ) (ls : List ℤ) (finals : List Float) → Decoder → (use-final : Bool) → (m m' : Parts) → BestPath → Type 0
-BestPathIs tk sm rs ls finals d use-final m m' r =
-    (F : FinalsLeft tk sm rs ls finals d) → let L = F.left in (bestAs r m' ≡ (call L.g L.c L.l (readCall (bestPathRead use-final (placesFor m))) L.st).answer) × BestKeeps r m m'
+abbrev pub BestPathIs : (tk : List ℕ) (sm : List Float) (rs : List ℕ) (ls : List ℤ) (finals : List Float) → Decoder → (use_final : Bool) → (m m' : Parts) → BestPath → Type 0
+BestPathIs tk sm rs ls finals d use_final m m' r =
+    (F : FinalsLeft tk sm rs ls finals d) → let L = F.left in (best_as r m' ≡ (call L.g L.c L.l (read_call (best_path_read use_final (places_for m))) L.st).answer) × BestKeeps r m m'
 
 -- the answer and the lent output whole; what it works in is left to the program, and untouched where 6 refuses
-pub record AlternativesIs (tk : List ℕ) (sm : List Float) (rs : List ℕ) (ls : List ℤ) (finals : List Float) (d : Decoder) (use-final : Bool) (max : ℕ) (w w' : Scratch) (o o' : Outputs) (r : Listed) : Type 0 where
-  pub answer : (F : FinalsLeft tk sm rs ls finals d) → let L = F.left in ListedIs (call L.g L.c L.l (readCall (alternativesRead use-final max (placesIn o))) L.st).answer o o' r
+pub record AlternativesIs (tk : List ℕ) (sm : List Float) (rs : List ℕ) (ls : List ℤ) (finals : List Float) (d : Decoder) (use_final : Bool) (max : ℕ) (w w' : Scratch) (o o' : Outputs) (r : Listed) : Type 0 where
+  pub answer : (F : FinalsLeft tk sm rs ls finals d) → let L = F.left in ListedIs (call L.g L.c L.l (read_call (alternatives_read use_final max (places_in o))) L.st).answer o o' r
   pub work : Used ScratchLeft (64 < max) w w'
 
 -- these limits, but for the places of the lists below joins and of the kept readings
@@ -190,6 +190,6 @@ abbrev pub holding : Limits → (entries kept : ℕ) → Limits
 holding l entries kept = record { full = l.full; queue = l.queue; below = some entries; kept = some kept }
 
 -- the same, with the places of the two stores of 15 as limits
-pub record ReadingsIs (tk : List ℕ) (sm : List Float) (rs : List ℕ) (ls : List ℤ) (gs finals : List Float) (d : Decoder) (use-final : Bool) (listed max entries kept : ℕ) (w w' : ListScratch) (o o' : Lists) (r : ReadingList) : Type 0 where
-  pub answer : (F : GapsLeft tk sm rs ls gs finals d) → let L = F.left in ReadingsAre (call L.g L.c (holding L.l entries kept) (readCall (readingsRead use-final listed max (listPlaces o))) L.st).answer max o o' r
+pub record ReadingsIs (tk : List ℕ) (sm : List Float) (rs : List ℕ) (ls : List ℤ) (gs finals : List Float) (d : Decoder) (use_final : Bool) (listed max entries kept : ℕ) (w w' : ListScratch) (o o' : Lists) (r : ReadingList) : Type 0 where
+  pub answer : (F : GapsLeft tk sm rs ls gs finals d) → let L = F.left in ReadingsAre (call L.g L.c (holding L.l entries kept) (read_call (readings_read use_final listed max (output_places o))) L.st).answer max o o' r
   pub work : Used ListScratchLeft ((64 < listed) ⊎ (64 < max)) w w'

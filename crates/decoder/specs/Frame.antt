@@ -11,27 +11,27 @@ use Rattle.std.proofs.Math.Dec.{T}
 use Rattle.lists.specs.Lists.{◌∈◌, all}
 use Rattle.lists.specs.Tests.{below_more, holds}
 use Rattle.real32.specs.Small.{tame}
-use Rattle.model.specs.Basics.{first_of, refuse, atFrames, over, Outcome, ok, refused, ◌>>=◌}
+use Rattle.model.specs.Basics.{first_of, refuse, at_frames, over, Outcome, ok, refused, ◌>>=◌}
 use Rattle.model.specs.Graph.{Graph, states}
-use Rattle.model.specs.Path.{Path, emptyPath, arcOn, branchOn, isLink, word, Token, Table, tokens, Limits}
+use Rattle.model.specs.Path.{Path, empty_path, arc_on_lem, branch_on, is_link, word, Token, Table, tokens, Limits}
 use Rattle.model.specs.Cutoff.{Config as Settings}
 use Rattle.model.specs.Arrive.{Here, Work as ModelWork}
-use Rattle.model.specs.Passes.{State, done, emittingPass, nonemittingPass, checkFrame, frame}
-use Rattle.model.specs.Calls.{frameCall, Answer, refusalAnswer, said, call, Said}
+use Rattle.model.specs.Passes.{State, done, emitting_pass, nonemitting_pass, check_frame, frame}
+use Rattle.model.specs.Calls.{frame_call, Answer, refusal_answer, said, call, Said}
 use Rattle.model.specs.Accepted.{Ok, weaken}
 use Rattle.copy_laws.specs.Walks.{Heard}
 use Rattle.copy_laws.specs.Tables.{At as TokenAt}
 use Rattle.copy_laws.specs.Shapes.{Falling}
 use Rattle.copy_laws.specs.Active.{Active}
-use Rattle.copy_laws.specs.Kept.{hearing, Since, emitting-active}
-use Rattle.copy_laws.specs.States.{Standing, Usable, usable, inFrame, frame-standing}
+use Rattle.copy_laws.specs.Kept.{hearing, Since, emitting_active}
+use Rattle.copy_laws.specs.States.{Standing, Usable, usable, in_frame, frame_standing}
 use Rattle.cutoff.specs.declared.Config.{Config}
-use Rattle.cutoff.specs.Costs.{configOf, Fine}
+use Rattle.cutoff.specs.Costs.{config_of, Fine}
 use Rattle.tokens.specs.declared.Token.{Token as Stored}
-use Rattle.tokens.specs.Layout.{place_in, Cell, cell_at, tokenOf}
-use Rattle.records.specs.History.{History, noHistory, tag, historyOf, linkOn}
+use Rattle.tokens.specs.Layout.{place_in, Cell, cell_at, token_of}
+use Rattle.records.specs.History.{History, no_history, tag, history_of, link_on_lem}
 use Rattle.records.specs.Stands.{Stands}
-use Rattle.stores.specs.Shown.{Shows, showsNone, showsToken, Shown}
+use Rattle.stores.specs.Shown.{Shows, shows_none, shows_token, Shown}
 use Rattle.stores.specs.Rep.{Lent, Lens, store_of}
 use Rattle.refusals.specs.declared.Place.TheVariants.{AtFrames}
 use Rattle.arrivals.specs.declared.Setting.{Setting}
@@ -39,16 +39,16 @@ use Rattle.arcs.specs.declared.Work.{Work}
 use Rattle.arcs.specs.declared.Passed.{Passed}
 use Rattle.arcs.specs.declared.Passed.TheVariants.{Refused as NotPassed, On}
 use Rattle.arcs.specs.Passed.{Ground, At}
-use Rattle.arcs.specs.Ended.{EndedBy, endedRefused, endedOn}
+use Rattle.arcs.specs.Ended.{EndedBy, ended_refused, ended_on}
 use Rattle.arcs.specs.State.{Tables, tables}
 use Rattle.emitting.specs.Whole.{PassGiven, EmittingIs}
 use Rattle.nonemitting.specs.Pass.{NonemittingGiven, NonemittingIs}
-use Rattle.checks.specs.Frame.{number_of, frameNumber}
+use Rattle.checks.specs.Frame.{number_of, frame_number}
 use Rattle.decoder.specs.declared.Decoder.{Decoder}
 use Rattle.decoder.specs.declared.Called.{Called}
 use Rattle.decoder.specs.declared.Called.TheVariants.{Done, Refused}
-use Rattle.decoder.specs.Represents.{setting_of, Represents, CalledBy, calledDone, calledRefused}
-use Rattle.decoder.specs.Begin.{moved_to, turnedOf, back-side, other-side, fixed_moved, none-newer, BeginGiven}
+use Rattle.decoder.specs.Represents.{setting_of, Represents, CalledBy, called_done, called_refused}
+use Rattle.decoder.specs.Begin.{moved_to, turned_of, back_side, other_side, fixed_moved, none_newer, BeginGiven}
 
 -- ---- the two passes
 
@@ -59,27 +59,27 @@ unheard T = let p = T.arcs in tables T.offsets p.ilabels p.olabels p.weights p.n
 -- what is given to the emitting pass, which leaves no queue
 pub record RunGiven (g : Setting) (m : Lent) (qs eps : List ℕ) (T : Tables) (c : Config) (used seq : ℕ) : Type 0 where
   pub pass : PassGiven g m qs eps T used seq
-  pub idle : Ok (λ w. (w.queue ≡ []) × (w.requeued ≡ [])) (emittingPass pass.H (configOf c) T.arcs.loglikes pass.done seq pass.fresh)
+  pub idle : Ok (λ w. (w.queue ≡ []) × (w.requeued ≡ [])) (emitting_pass pass.H (config_of c) T.arcs.loglikes pass.done seq pass.fresh)
 
 abbrev pub run_of : Here → Settings → List Float → Table → (seq fresh : ℕ) → Outcome ModelWork
-run_of H c ls ts q n = emittingPass H c ls ts q n >>= λ w. nonemittingPass H w
+run_of H c ls ts q n = emitting_pass H c ls ts q n >>= λ w. nonemitting_pass H w
 
 abbrev pub RunIs : (g : Setting) → (m m' : Lent) → (qs qs' eps : List ℕ) → Tables → Config → (used seq : ℕ) → Passed → Type 0
-RunIs g m m' qs qs' eps T c used seq r = (G : RunGiven g m qs eps T c used seq) → EndedBy g m' qs' G.pass.done (run_of G.pass.H (configOf c) T.arcs.loglikes G.pass.done seq G.pass.fresh) r
+RunIs g m m' qs qs' eps T c used seq r = (G : RunGiven g m qs eps T c used seq) → EndedBy g m' qs' G.pass.done (run_of G.pass.H (config_of c) T.arcs.loglikes G.pass.done seq G.pass.fresh) r
 
 module _ {g : Setting} {m : Lent} {qs eps : List ℕ} {T : Tables} {c : Config} {used seq : ℕ} (G : RunGiven g m qs eps T c used seq) where
   abbrev emits : Outcome ModelWork
-  emits = emittingPass G.pass.H (configOf c) T.arcs.loglikes G.pass.done seq G.pass.fresh
+  emits = emitting_pass G.pass.H (config_of c) T.arcs.loglikes G.pass.done seq G.pass.fresh
 
   module _ (m' : Lent) (qs' : List ℕ) (r : Passed) (E : EmittingIs g m m' qs qs' eps T c used seq r) where
     abbrev By : Lent → List ℕ → Outcome ModelWork → Passed → Type 0
     By m qs = EndedBy g m qs G.pass.done
 
-    pub run-stops : (n : ℕ) → r ≡ NotPassed n → By m' qs' (emits >>= λ w. nonemittingPass G.pass.H w) (NotPassed n)
-    run-stops n e = go emits (subst (By m' qs' emits) e (E G.pass))
+    pub run_stops : (n : ℕ) → r ≡ NotPassed n → By m' qs' (emits >>= λ w. nonemitting_pass G.pass.H w) (NotPassed n)
+    run_stops n e = go emits (subst (By m' qs' emits) e (E G.pass))
       where
-        go : (o : Outcome ModelWork) → By m' qs' o (NotPassed n) → By m' qs' (o >>= λ w. nonemittingPass G.pass.H w) (NotPassed n)
-        go o (endedRefused j d z) = endedRefused n d z
+        go : (o : Outcome ModelWork) → By m' qs' o (NotPassed n) → By m' qs' (o >>= λ w. nonemitting_pass G.pass.H w) (NotPassed n)
+        go o (ended_refused j d z) = ended_refused n d z
 
     module _ (x : Work) (e : r ≡ On x) (long : length qs' ≡ length qs) where
       -- the work that the emitting pass leaves
@@ -93,13 +93,13 @@ module _ {g : Setting} {m : Lent} {qs eps : List ℕ} {T : Tables} {c : Config} 
       emitted = go emits refl (subst (By m' qs' emits) e (E G.pass))
         where
           go : (o : Outcome ModelWork) → emits ≡ o → By m' qs' o (On x) → Emitted
-          go o q (endedOn {w = w} p A) = record { w = w; p = p; is = q; at = A }
+          go o q (ended_on {w = w} p A) = record { w = w; p = p; is = q; at = A }
 
-      pub none-waits : (emitted.w.queue ≡ []) × (emitted.w.requeued ≡ [])
-      none-waits = subst (Ok (λ w. (w.queue ≡ []) × (w.requeued ≡ []))) emitted.is G.idle
+      pub none_waits : (emitted.w.queue ≡ []) × (emitted.w.requeued ≡ [])
+      none_waits = subst (Ok (λ w. (w.queue ≡ []) × (w.requeued ≡ []))) emitted.is G.idle
 
-      abbrev pub run-given : NonemittingGiven g m' qs' eps (unheard T) x
-      run-given =
+      abbrev pub run_given : NonemittingGiven g m' qs' eps (unheard T) x
+      run_given =
           let of = G.pass.of in
           record {
             H = G.pass.H;
@@ -109,12 +109,12 @@ module _ {g : Setting} {m : Lent} {qs eps : List ℕ} {T : Tables} {c : Config} 
             ground = subst (Ground g G.pass.H G.pass.done eps) (sym long) G.pass.ground;
             at = emitted.at;
             of = record { offsets = of.offsets; ilabels = of.ilabels; olabels = of.olabels; weights = of.weights; nextstates = of.nextstates; pdfs = of.pdfs; phones = of.phones; heard = tt };
-            none-queued = none-waits.0;
-            none-requeued = none-waits.1;
+            none_queued = none_waits.0;
+            none_requeued = none_waits.1;
           }
 
-      pub run_ends : (m'' : Lent) (qs'' : List ℕ) (r' : Passed) → NonemittingIs g m' m'' qs' qs'' eps (unheard T) x r' → By m'' qs'' (emits >>= λ w. nonemittingPass G.pass.H w) r'
-      run_ends m'' qs'' r' N = subst (λ (o : Outcome ModelWork). By m'' qs'' (o >>= λ w. nonemittingPass G.pass.H w) r') (sym emitted.is) (N run-given).ends
+      pub run_ends : (m'' : Lent) (qs'' : List ℕ) (r' : Passed) → NonemittingIs g m' m'' qs' qs'' eps (unheard T) x r' → By m'' qs'' (emits >>= λ w. nonemitting_pass G.pass.H w) r'
+      run_ends m'' qs'' r' N = subst (λ (o : Outcome ModelWork). By m'' qs'' (o >>= λ w. nonemitting_pass G.pass.H w) r') (sym emitted.is) (N run_given).ends
 
 -- ---- what the copy's invariant gives the passes
 
@@ -124,74 +124,74 @@ at_some (none ∷ ts) t m = let (s, e) = at_some ts t m in (suc s, e)
 at_some (some u ∷ ts) t (here e) = (0, ap some (sym e))
 at_some (some u ∷ ts) t (there m) = let (s, e) = at_some ts t m in (suc s, e)
 
-pub fine-is : (g : Graph) (fs : List Heard) (ts : Table) (q n : ℕ) → Active g fs ts q n → Fine ts
-fine-is g fs ts q n a t m = let (s, e) = at_some ts t m in let u = (a.sound s t e).sums in (holds u.cost-tame, u.cost.1)
+pub fine_is : (g : Graph) (fs : List Heard) (ts : Table) (q n : ℕ) → Active g fs ts q n → Fine ts
+fine_is g fs ts q n a t m = let (s, e) = at_some ts t m in let u = (a.sound s t e).sums in (holds u.cost_tame, u.cost.1)
 
 -- The numbers of a path fall, so that its newest record's is below them all.
-tag-falls : (f : ℕ) (p : Path) → Falling f p → tag (historyOf p) ≤ f
-unfolding tag historyOf
-tag-falls f emptyPath d = omega arith
-tag-falls f (arcOn s p) d = go (isLink s && not s.beside) (tag-falls s.number p d.1)
+tag_falls : (f : ℕ) (p : Path) → Falling f p → tag (history_of p) ≤ f
+unfolding tag history_of
+tag_falls f empty_path d = omega arith
+tag_falls f (arc_on_lem s p) d = go (is_link s && not s.beside) (tag_falls s.number p d.1)
   where
-    go : (b : Bool) → tag (historyOf p) ≤ s.number → tag (cond b (linkOn s.number s.frame (word s) s.starts (historyOf p)) (historyOf p)) ≤ f
+    go : (b : Bool) → tag (history_of p) ≤ s.number → tag (cond b (link_on_lem s.number s.frame (word s) s.starts (history_of p)) (history_of p)) ≤ f
     go true l = let z = d.0 in omega arith
     go false l = let z = d.0 in omega arith
-tag-falls f (branchOn m k p) d = let z = d.0 in omega arith
+tag_falls f (branch_on m k p) d = let z = d.0 in omega arith
 
 -- ---- the finished table, with fewer records
 
 -- the newest record of the finished tokens
 pub record NewestIs (tk : List ℕ) (sm : List Float) (b n r : ℕ) : Type 0 where
-  pub covers : (s : ℕ) → s < n → (tokenOf (cell_at tk sm (place_in b s))).link ≤ r
-  pub some-link : (r ≡ 0) ⊎ ((s : ℕ) × (s < n) × ((tokenOf (cell_at tk sm (place_in b s))).link ≡ r))
+  pub covers : (s : ℕ) → s < n → (token_of (cell_at tk sm (place_in b s))).link ≤ r
+  pub some_link : (r ≡ 0) ⊎ ((s : ℕ) × (s < n) × ((token_of (cell_at tk sm (place_in b s))).link ≡ r))
 
 stands_fewer : {h : ℕ → History} {used k : ℕ} (m : Lent) → k ≤ used → Stands (store_of m) used h → Stands (store_of m) k h
 stands_fewer m l S = record { none = S.none; each = λ j i. S.each j (omega arith); ascends = λ i j a b. S.ascends i j a (omega arith) }
 
 module _ {h : ℕ → History} {used : ℕ} {tk : List ℕ} {sm : List Float} {b n r : ℕ} {ts : Table} (W : Shown h used tk sm b n ts) (N : NewestIs tk sm b n r) where
   fewer : r ≤ used
-  fewer = go N.some-link
+  fewer = go N.some_link
     where
-      of-place : (s : ℕ) (o : Option Token) → Shows h used (cell_at tk sm (place_in b s)) o → (tokenOf (cell_at tk sm (place_in b s))).link ≤ used
-      of-place s none (showsNone e) = omega arith
-      of-place s (some t) (showsToken y e i) = let z = ap (λ (c : Cell). c.held) e in let l = i.link.low in omega arith
+      of_place : (s : ℕ) (o : Option Token) → Shows h used (cell_at tk sm (place_in b s)) o → (token_of (cell_at tk sm (place_in b s))).link ≤ used
+      of_place s none (shows_none e) = omega arith
+      of_place s (some t) (shows_token y e i) = let z = ap (λ (c : Cell). c.held) e in let l = i.link.low in omega arith
 
-      go : (r ≡ 0) ⊎ ((s : ℕ) × (s < n) × ((tokenOf (cell_at tk sm (place_in b s))).link ≡ r)) → r ≤ used
+      go : (r ≡ 0) ⊎ ((s : ℕ) × (s < n) × ((token_of (cell_at tk sm (place_in b s))).link ≡ r)) → r ≤ used
       go (inl e) = omega arith
-      go (inr (s, l, e)) = let z = of-place s (get_or ts s none) (W.place s l) in omega arith
+      go (inr (s, l, e)) = let z = of_place s (get_or ts s none) (W.place s l) in omega arith
 
-  shown-fewer : Shown h r tk sm b n ts
-  shown-fewer = record { size = W.size; place = λ s l. of-place s l (get_or ts s none) (W.place s l) }
+  shown_fewer : Shown h r tk sm b n ts
+  shown_fewer = record { size = W.size; place = λ s l. of_place s l (get_or ts s none) (W.place s l) }
     where
-      of-place : (s : ℕ) → s < n → (o : Option Token) → Shows h used (cell_at tk sm (place_in b s)) o → Shows h r (cell_at tk sm (place_in b s)) o
-      of-place s l none (showsNone e) = showsNone e
-      of-place s l (some t) (showsToken y e i) =
+      of_place : (s : ℕ) → s < n → (o : Option Token) → Shows h used (cell_at tk sm (place_in b s)) o → Shows h r (cell_at tk sm (place_in b s)) o
+      of_place s l none (shows_none e) = shows_none e
+      of_place s l (some t) (shows_token y e i) =
           let low : y.link ≤ r = let z = N.covers s l in let k = ap (λ (c : Cell). c.held) e in omega arith in
-          showsToken y e (record { cost = i.cost; graph = i.graph; link = record { low = low; is = i.link.is; own = i.link.own; frames = i.link.frames }; phone = i.phone; seq = i.seq })
+          shows_token y e (record { cost = i.cost; graph = i.graph; link = record { low = low; is = i.link.is; own = i.link.own; frames = i.link.frames }; phone = i.phone; seq = i.seq })
 
   -- its model number is one of the table's own
-  newest-low : (f : ℕ) → h 0 ≡ noHistory → ((s : ℕ) (t : Token) → TokenAt ts s t → Falling f t.path) → tag (h r) ≤ f
-  newest-low f z falls = go N.some-link
+  newest_low : (f : ℕ) → h 0 ≡ no_history → ((s : ℕ) (t : Token) → TokenAt ts s t → Falling f t.path) → tag (h r) ≤ f
+  newest_low f z falls = go N.some_link
     where
-      of-place : (s : ℕ) → s < n → (tokenOf (cell_at tk sm (place_in b s))).link ≡ r → (o : Option Token) → get_or ts s none ≡ o → Shows h used (cell_at tk sm (place_in b s)) o → tag (h r) ≤ f
-      of-place s l e none q (showsNone d) = let k : r ≡ 0 = omega arith in subst (λ (v : History). tag v ≤ f) (sym (ap h k ∙ z)) (none-newer f)
-      of-place s l e (some t) q (showsToken y d i) =
+      of_place : (s : ℕ) → s < n → (token_of (cell_at tk sm (place_in b s))).link ≡ r → (o : Option Token) → get_or ts s none ≡ o → Shows h used (cell_at tk sm (place_in b s)) o → tag (h r) ≤ f
+      of_place s l e none q (shows_none d) = let k : r ≡ 0 = omega arith in subst (λ (v : History). tag v ≤ f) (sym (ap h k ∙ z)) (none_newer f)
+      of_place s l e (some t) q (shows_token y d i) =
           let k : y.link ≡ r = let x = ap (λ (c : Cell). c.held) d in omega arith in
-          subst (λ (v : History). tag v ≤ f) (sym (ap h (sym k) ∙ i.link.is)) (tag-falls f t.path (falls s t q))
+          subst (λ (v : History). tag v ≤ f) (sym (ap h (sym k) ∙ i.link.is)) (tag_falls f t.path (falls s t q))
 
-      go : (r ≡ 0) ⊎ ((s : ℕ) × (s < n) × ((tokenOf (cell_at tk sm (place_in b s))).link ≡ r)) → tag (h r) ≤ f
-      go (inl e) = subst (λ (v : History). tag v ≤ f) (sym (ap h e ∙ z)) (none-newer f)
-      go (inr (s, l, e)) = of-place s l e (get_or ts s none) refl (W.place s l)
+      go : (r ≡ 0) ⊎ ((s : ℕ) × (s < n) × ((token_of (cell_at tk sm (place_in b s))).link ≡ r)) → tag (h r) ≤ f
+      go (inl e) = subst (λ (v : History). tag v ≤ f) (sym (ap h e ∙ z)) (none_newer f)
+      go (inr (s, l, e)) = of_place s l e (get_or ts s none) refl (W.place s l)
 
 -- none of no states, and one state more
-pub newest-none : (tk : List ℕ) (sm : List Float) (b : ℕ) → NewestIs tk sm b 0 0
-newest-none tk sm b = record { covers = λ s l. absurd (omega arith); some-link = inl refl }
+pub newest_none : (tk : List ℕ) (sm : List Float) (b : ℕ) → NewestIs tk sm b 0 0
+newest_none tk sm b = record { covers = λ s l. absurd (omega arith); some_link = inl refl }
 
-pub newest-more : (tk : List ℕ) (sm : List Float) (b n r k : ℕ) → NewestIs tk sm b n r → (x : Stored) → x ≡ tokenOf (cell_at tk sm (place_in b n)) → (r ≤ k) × (x.link ≤ k) × ((k ≡ r) ⊎ (k ≡ x.link)) → NewestIs tk sm b (n + 1) k
-newest-more tk sm b n r k N x e (up, over-it, one) =
-    record { covers = below_more (λ s. (tokenOf (cell_at tk sm (place_in b s))).link ≤ k) n (λ s l. let z = N.covers s l in omega arith) (subst (λ (y : Stored). y.link ≤ k) e over-it); some-link = go one N.some-link }
+pub newest_more : (tk : List ℕ) (sm : List Float) (b n r k : ℕ) → NewestIs tk sm b n r → (x : Stored) → x ≡ token_of (cell_at tk sm (place_in b n)) → (r ≤ k) × (x.link ≤ k) × ((k ≡ r) ⊎ (k ≡ x.link)) → NewestIs tk sm b (n + 1) k
+newest_more tk sm b n r k N x e (up, over-it, one) =
+    record { covers = below_more (λ s. (token_of (cell_at tk sm (place_in b s))).link ≤ k) n (λ s l. let z = N.covers s l in omega arith) (subst (λ (y : Stored). y.link ≤ k) e over-it); some_link = go one N.some_link }
   where
-    go : (k ≡ r) ⊎ (k ≡ x.link) → (r ≡ 0) ⊎ ((s : ℕ) × (s < n) × ((tokenOf (cell_at tk sm (place_in b s))).link ≡ r)) → (k ≡ 0) ⊎ ((s : ℕ) × (s < n + 1) × ((tokenOf (cell_at tk sm (place_in b s))).link ≡ k))
+    go : (k ≡ r) ⊎ (k ≡ x.link) → (r ≡ 0) ⊎ ((s : ℕ) × (s < n) × ((token_of (cell_at tk sm (place_in b s))).link ≡ r)) → (k ≡ 0) ⊎ ((s : ℕ) × (s < n + 1) × ((token_of (cell_at tk sm (place_in b s))).link ≡ k))
     go (inl q) (inl z) = inl (q ∙ z)
     go (inl q) (inr (s, l, z)) = inr (s, omega arith, z ∙ sym q)
     go (inr q) w = inr (n, omega arith, sym (q ∙ ap (λ (y : Stored). y.link) e))
@@ -204,24 +204,24 @@ pub record BackIs (tk : List ℕ) (sm : List Float) (d r : Decoder) : Type 0 whe
   pub is : r ≡ moved_to d d.side d.frames d.seq used
   pub newest : NewestIs tk sm (1 - d.side) d.graph.states used
 
-pub begin-from : {g : Graph} {c : Settings} {l : Limits} {T : Tables} {m : Lent} {eps : List ℕ} {places : ℕ} {d : Decoder} {fs : List Heard} {st : State} → Represents g c l T m eps places d fs st → BeginGiven g c l T m eps places d st
-begin-from R = record { fixed = R.fixed; fair = R.standing.margin; margin-is = R.margin-is; idle = R.idle }
+pub begin_from : {g : Graph} {c : Settings} {l : Limits} {T : Tables} {m : Lent} {eps : List ℕ} {places : ℕ} {d : Decoder} {fs : List Heard} {st : State} → Represents g c l T m eps places d fs st → BeginGiven g c l T m eps places d st
+begin_from R = record { fixed = R.fixed; fair = R.standing.margin; margin_is = R.margin_is; idle = R.idle }
 
-bind-twice : {A B C : Type 0} (m : Outcome A) (f : A → Outcome B) (k : B → Outcome C) → (m >>= λ a. f a >>= k) ≡ ((m >>= f) >>= k)
-bind-twice (ok a) f k = refl
-bind-twice (refused n) f k = refl
+bind_twice : {A B C : Type 0} (m : Outcome A) (f : A → Outcome B) (k : B → Outcome C) → (m >>= λ a. f a >>= k) ≡ ((m >>= f) >>= k)
+bind_twice (ok a) f k = refl
+bind_twice (refused n) f k = refl
 
 -- the tables with a frame
-abbrev pub heardBy : Tables → List Float → Tables
-heardBy T ls = let p = T.arcs in tables T.offsets p.ilabels p.olabels p.weights p.nextstates p.tid2pdf p.tid2phone ls
+abbrev pub heard_by : Tables → List Float → Tables
+heard_by T ls = let p = T.arcs in tables T.offsets p.ilabels p.olabels p.weights p.nextstates p.tid2pdf p.tid2phone ls
 
 module _ {g : Graph} {c : Settings} {l : Limits} {T : Tables} {m : Lent} {eps : List ℕ} {places : ℕ} {d : Decoder} {fs : List Heard} {st : State} (R : Represents g c l T m eps places d fs st) (ls : List Float) where
   abbrev checked : (n pdfs : ℕ) → Option ℕ
   checked n pdfs = first_of (refuse 10 (leb 65_536 n) ∷ refuse 8 (not (eqb (length ls) pdfs)) ∷ refuse 9 (not (all tame ls)) ∷ [])
 
-  check-is : checkFrame g st ls ≡ checked d.frames d.graph.pdfs
-  unfolding checkFrame
-  check-is = λ k. checked (R.frames-are k) (sym R.fixed.pdfs-are k)
+  check_is : check_frame g st ls ≡ checked d.frames d.graph.pdfs
+  unfolding check_frame
+  check_is = λ k. checked (R.frames_are k) (sym R.fixed.pdfs_are k)
 
   named : (a b t : Bool) → let o = first_of (refuse 10 a ∷ refuse 8 b ∷ refuse 9 t ∷ []) in (number_of o ≡ 0 → o ≡ none) × ((number_of o ≡ 0 → ⊥) → o ≡ some (number_of o))
   named true b t = (λ e. absurd (omega arith), λ e. refl)
@@ -229,56 +229,56 @@ module _ {g : Graph} {c : Settings} {l : Limits} {T : Tables} {m : Lent} {eps : 
   named false false true = (λ e. absurd (omega arith), λ e. refl)
   named false false false = (λ e. refl, λ e. absurd (e refl))
 
-  tests : (frameNumber ls d.frames d.graph.pdfs ≡ 0 → checked d.frames d.graph.pdfs ≡ none) × ((frameNumber ls d.frames d.graph.pdfs ≡ 0 → ⊥) → checked d.frames d.graph.pdfs ≡ some (frameNumber ls d.frames d.graph.pdfs))
+  tests : (frame_number ls d.frames d.graph.pdfs ≡ 0 → checked d.frames d.graph.pdfs ≡ none) × ((frame_number ls d.frames d.graph.pdfs ≡ 0 → ⊥) → checked d.frames d.graph.pdfs ≡ some (frame_number ls d.frames d.graph.pdfs))
   tests = named (leb 65_536 d.frames) (not (eqb (length ls) d.graph.pdfs)) (not (all tame ls))
 
-  pub no-fault : (n : ℕ) → n ≡ frameNumber ls d.frames d.graph.pdfs → n ≡ 0 → checkFrame g st ls ≡ none
-  no-fault n e z = check-is ∙ tests.0 (sym e ∙ z)
+  pub no_fault : (n : ℕ) → n ≡ frame_number ls d.frames d.graph.pdfs → n ≡ 0 → check_frame g st ls ≡ none
+  no_fault n e z = check_is ∙ tests.0 (sym e ∙ z)
 
-  pub a-fault : (n : ℕ) → n ≡ frameNumber ls d.frames d.graph.pdfs → (n ≡ 0 → ⊥) → checkFrame g st ls ≡ some n
-  a-fault n e z = check-is ∙ tests.1 (λ q. z (e ∙ q)) ∙ ap some (sym e)
+  pub a_fault : (n : ℕ) → n ≡ frame_number ls d.frames d.graph.pdfs → (n ≡ 0 → ⊥) → check_frame g st ls ≡ some n
+  a_fault n e z = check_is ∙ tests.1 (λ q. z (e ∙ q)) ∙ ap some (sym e)
 
-  refused-so : (n : ℕ) → checkFrame g st ls ≡ some n → CalledBy g c l T m eps places (call g c l (frameCall ls) st) (Refused d (record { number = n; place = AtFrames d.frames }))
+  refused_so : (n : ℕ) → check_frame g st ls ≡ some n → CalledBy g c l T m eps places (call g c l (frame_call ls) st) (Refused d (record { number = n; place = AtFrames d.frames }))
   unfolding call frame
-  refused-so n e =
-      subst (λ (o : Option ℕ). CalledBy g c l T m eps places (said st (atFrames st.frames) (elim o as (λ z. Outcome State) [ none ↦ emittingPass (inFrame g l st) c ls st.table st.seq st.fresh >>= λ w. nonemittingPass (inFrame g l st) w >>= λ v. ok (done st (suc st.frames) v) | some n ↦ refused n ])) (Refused d (record { number = n; place = AtFrames d.frames }))) (sym e)
-      (calledRefused fs (ap (λ (k : ℕ). refusal n k) R.frames-are) R)
+  refused_so n e =
+      subst (λ (o : Option ℕ). CalledBy g c l T m eps places (said st (at_frames st.frames) (elim o as (λ z. Outcome State) [ none ↦ emitting_pass (in_frame g l st) c ls st.table st.seq st.fresh >>= λ w. nonemitting_pass (in_frame g l st) w >>= λ v. ok (done st (suc st.frames) v) | some n ↦ refused n ])) (Refused d (record { number = n; place = AtFrames d.frames }))) (sym e)
+      (called_refused fs (ap (λ (k : ℕ). refusal n k) R.frames_are) R)
     where
       refusal : ℕ → ℕ → Answer
-      refusal n k = refusalAnswer (record { number = n; place = atFrames k })
+      refusal n k = refusal_answer (record { number = n; place = at_frames k })
 
   -- refused before the passes
-  pub frame_refused : (n : ℕ) → checkFrame g st ls ≡ some n → (r : Called) → r ≡ Refused d (record { number = n; place = AtFrames d.frames }) → CalledBy g c l T m eps places (call g c l (frameCall ls) st) r
-  frame_refused n e r q = subst (CalledBy g c l T m eps places (call g c l (frameCall ls) st)) (sym q) (refused-so n e)
+  pub frame_refused : (n : ℕ) → check_frame g st ls ≡ some n → (r : Called) → r ≡ Refused d (record { number = n; place = AtFrames d.frames }) → CalledBy g c l T m eps places (call g c l (frame_call ls) st) r
+  frame_refused n e r q = subst (CalledBy g c l T m eps places (call g c l (frame_call ls) st)) (sym q) (refused_so n e)
 
-  module _ (e : checkFrame g st ls ≡ none) where
+  module _ (e : check_frame g st ls ≡ none) where
     pub can : Usable g st ls
     can = usable g st ls e
 
     abbrev H : Here
-    H = inFrame g l st
+    H = in_frame g l st
 
     frame_is : frame g c l ls st ≡ (run_of H c ls st.table st.seq st.fresh >>= λ v. ok (done st (suc st.frames) v))
     unfolding frame
     frame_is =
-        ap (λ (o : Option ℕ). elim o as (λ z. Outcome State) [ none ↦ emittingPass H c ls st.table st.seq st.fresh >>= λ w. nonemittingPass H w >>= λ v. ok (done st (suc st.frames) v) | some n ↦ refused n ]) e ∙
-        bind-twice (emittingPass H c ls st.table st.seq st.fresh) (nonemittingPass H) (λ v. ok (done st (suc st.frames) v))
+        ap (λ (o : Option ℕ). elim o as (λ z. Outcome State) [ none ↦ emitting_pass H c ls st.table st.seq st.fresh >>= λ w. nonemitting_pass H w >>= λ v. ok (done st (suc st.frames) v) | some n ↦ refused n ]) e ∙
+        bind_twice (emitting_pass H c ls st.table st.seq st.fresh) (nonemitting_pass H) (λ v. ok (done st (suc st.frames) v))
 
-    runs : call g c l (frameCall ls) st ≡ said st (atFrames st.frames) (run_of H c ls st.table st.seq st.fresh >>= λ v. ok (done st (suc st.frames) v))
+    runs : call g c l (frame_call ls) st ≡ said st (at_frames st.frames) (run_of H c ls st.table st.seq st.fresh >>= λ v. ok (done st (suc st.frames) v))
     unfolding call
-    runs = ap (said st (atFrames st.frames)) frame_is
+    runs = ap (said st (at_frames st.frames)) frame_is
 
-    pub few-seqs : d.seq + d.graph.states < 2 ^ 32
-    few-seqs =
+    pub few_seqs : d.seq + d.graph.states < 2 ^ 32
+    few_seqs =
         let n = states g in
         let k = suc (length fs) in
-        let x : n * k ≤ 65_535 * k = mul-le-mul_right k R.fixed.good.shape.states-few in
+        let x : n * k ≤ 65_535 * k = mul-le-mul_right k R.fixed.good.shape.states_few in
         let y = R.standing.active.room in
         let z = R.standing.frames in
         let w = can.few in
-        let s = R.seq-is in
-        let a = R.fixed.states-are in
-        let b = R.fixed.good.shape.states-few in
+        let s = R.seq_is in
+        let a = R.fixed.states_are in
+        let b = R.fixed.good.shape.states_few in
         omega arith
 
     module _ (qs : List ℕ) (room : length qs ≡ places) where
@@ -288,22 +288,22 @@ module _ {g : Graph} {c : Settings} {l : Limits} {T : Tables} {m : Lent} {eps : 
           record {
             pass = record {
               side = f.side;
-              few = let z = f.good.shape.states-few in let a = f.states-are in omega arith;
+              few = let z = f.good.shape.states_few in let a = f.states_are in omega arith;
               small = f.small;
               before = refl;
-              frame = sym R.frames-are;
-              margin = R.margin-is;
+              frame = sym R.frames_are;
+              margin = R.margin_is;
               full = f.limits.full;
             };
             good = f.good;
-            states = f.states-are;
-            eps-long = f.eps-long;
-            eps-is = f.eps-is;
+            states = f.states_are;
+            eps_long = f.eps_long;
+            eps_is = f.eps_is;
             queue = λ k. ap (over k) f.limits.queue ∙ ap (λ (n : ℕ). ltb n k) (sym room);
           }
 
-      abbrev pub pass-given : PassGiven (setting_of d) m qs eps (heardBy T ls) d.used d.seq
-      pass-given =
+      abbrev pub pass_given : PassGiven (setting_of d) m qs eps (heard_by T ls) d.used d.seq
+      pass_given =
           let f = R.fixed in
           record {
             H = H;
@@ -326,85 +326,85 @@ module _ {g : Graph} {c : Settings} {l : Limits} {T : Tables} {m : Lent} {eps : 
             stands = R.stands;
             finished = R.finished;
             newest = R.newest;
-            seqs = few-seqs;
-            fine = fine-is g fs st.table st.seq st.fresh R.standing.active;
+            seqs = few_seqs;
+            fine = fine_is g fs st.table st.seq st.fresh R.standing.active;
           }
 
-      emits-idle : Ok (λ w. (w.queue ≡ []) × (w.requeued ≡ [])) (emittingPass H c ls st.table st.seq st.fresh)
-      emits-idle =
-          weaken (Since g (fs ++ (hearing ls st.table ∷ [])) st.fresh) (λ w. (w.queue ≡ []) × (w.requeued ≡ [])) (emittingPass H c ls st.table st.seq st.fresh) (λ w s. (s.no-queue, s.none-requeued))
-          (emitting-active H c ls st.table st.seq st.fresh fs R.fixed.good R.fixed.floats R.standing.frames R.standing.active)
+      emits_idle : Ok (λ w. (w.queue ≡ []) × (w.requeued ≡ [])) (emitting_pass H c ls st.table st.seq st.fresh)
+      emits_idle =
+          weaken (Since g (fs ++ (hearing ls st.table ∷ [])) st.fresh) (λ w. (w.queue ≡ []) × (w.requeued ≡ [])) (emitting_pass H c ls st.table st.seq st.fresh) (λ w s. (s.no_queue, s.none_requeued))
+          (emitting_active H c ls st.table st.seq st.fresh fs R.fixed.good R.fixed.floats R.standing.frames R.standing.active)
 
       -- the decoder's settings and seq are the copy's
-      pub idle-now : Ok (λ w. (w.queue ≡ []) × (w.requeued ≡ [])) (emittingPass H (configOf d.config) ls st.table d.seq st.fresh)
-      idle-now = subst₂ (λ (k : Settings) (q : ℕ). Ok (λ w. (w.queue ≡ []) × (w.requeued ≡ [])) (emittingPass H k ls st.table q st.fresh)) (sym R.fixed.config-is) R.seq-is emits-idle
+      pub idle_now : Ok (λ w. (w.queue ≡ []) × (w.requeued ≡ [])) (emitting_pass H (config_of d.config) ls st.table d.seq st.fresh)
+      idle_now = subst₂ (λ (k : Settings) (q : ℕ). Ok (λ w. (w.queue ≡ []) × (w.requeued ≡ [])) (emitting_pass H k ls st.table q st.fresh)) (sym R.fixed.config_is) R.seq_is emits_idle
 
-      abbrev asks : RunGiven (setting_of d) m qs eps (heardBy T ls) d.config d.used d.seq
-      asks = record { pass = pass-given; idle = idle-now }
+      abbrev asks : RunGiven (setting_of d) m qs eps (heard_by T ls) d.config d.used d.seq
+      asks = record { pass = pass_given; idle = idle_now }
 
-      pub run-asks : (s : Setting) → s ≡ setting_of d → (k : Config) → k ≡ d.config → RunGiven s m qs eps (heardBy T ls) k d.used d.seq
-      run-asks s s-is k k-is = subst₂ (λ (s : Setting) (k : Config). RunGiven s m qs eps (heardBy T ls) k d.used d.seq) (sym s-is) (sym k-is) asks
+      pub run_asks : (s : Setting) → s ≡ setting_of d → (k : Config) → k ≡ d.config → RunGiven s m qs eps (heard_by T ls) k d.used d.seq
+      run_asks s s-is k k-is = subst₂ (λ (s : Setting) (k : Config). RunGiven s m qs eps (heard_by T ls) k d.used d.seq) (sym s-is) (sym k-is) asks
 
-      module _ (s : Setting) (s-is : s ≡ setting_of d) (cf : Config) (cf-is : cf ≡ d.config) (m' : Lent) (L : Lens m m') (qs' : List ℕ) (r : Passed) (run : RunIs s m m' qs qs' eps (heardBy T ls) cf d.used d.seq r) where
+      module _ (s : Setting) (s-is : s ≡ setting_of d) (cf : Config) (cf-is : cf ≡ d.config) (m' : Lent) (L : Lens m m') (qs' : List ℕ) (r : Passed) (run : RunIs s m m' qs qs' eps (heard_by T ls) cf d.used d.seq r) where
         abbrev Ends : Outcome ModelWork → Passed → Type 0
         Ends = EndedBy (setting_of d) m' qs' st.table
 
-        ran : RunIs (setting_of d) m m' qs qs' eps (heardBy T ls) d.config d.used d.seq r
-        ran = subst₂ (λ (s : Setting) (k : Config). RunIs s m m' qs qs' eps (heardBy T ls) k d.used d.seq r) s-is cf-is run
+        ran : RunIs (setting_of d) m m' qs qs' eps (heard_by T ls) d.config d.used d.seq r
+        ran = subst₂ (λ (s : Setting) (k : Config). RunIs s m m' qs qs' eps (heard_by T ls) k d.used d.seq r) s-is cf-is run
 
         ends : Ends (run_of H c ls st.table st.seq st.fresh) r
-        ends = subst₂ (λ (k : Settings) (q : ℕ). Ends (run_of H k ls st.table q st.fresh) r) R.fixed.config-is (sym R.seq-is) (ran asks)
+        ends = subst₂ (λ (k : Settings) (q : ℕ). Ends (run_of H k ls st.table q st.fresh) r) R.fixed.config_is (sym R.seq_is) (ran asks)
 
         framed : Outcome ModelWork → Said
-        framed o = said st (atFrames st.frames) (o >>= λ v. ok (done st (suc st.frames) v))
+        framed o = said st (at_frames st.frames) (o >>= λ v. ok (done st (suc st.frames) v))
 
-        pub frame_on : (x : Work) → r ≡ On x → (d' : Decoder) → d' ≡ turnedOf d (d.frames + 1) x → CalledBy g c l T m' eps places (call g c l (frameCall ls) st) (Done d')
+        pub frame_on : (x : Work) → r ≡ On x → (d' : Decoder) → d' ≡ turned_of d (d.frames + 1) x → CalledBy g c l T m' eps places (call g c l (frame_call ls) st) (Done d')
         unfolding framed
-        frame_on x q d' z = subst (λ (y : Decoder). CalledBy g c l T m' eps places (call g c l (frameCall ls) st) (Done y)) (sym z) (go (run_of H c ls st.table st.seq st.fresh) refl (subst (Ends _) q ends))
+        frame_on x q d' z = subst (λ (y : Decoder). CalledBy g c l T m' eps places (call g c l (frame_call ls) st) (Done y)) (sym z) (go (run_of H c ls st.table st.seq st.fresh) refl (subst (Ends _) q ends))
           where
             next : d.frames + 1 ≡ suc st.frames
-            next = let k = R.frames-are in omega arith
+            next = let k = R.frames_are in omega arith
 
-            go : (o : Outcome ModelWork) → run_of H c ls st.table st.seq st.fresh ≡ o → Ends o (On x) → CalledBy g c l T m' eps places (call g c l (frameCall ls) st) (Done (turnedOf d (d.frames + 1) x))
-            go o b (endedOn {w = v} p A) =
+            go : (o : Outcome ModelWork) → run_of H c ls st.table st.seq st.fresh ≡ o → Ends o (On x) → CalledBy g c l T m' eps places (call g c l (frame_call ls) st) (Done (turned_of d (d.frames + 1) x))
+            go o b (ended_on {w = v} p A) =
                 let made : frame g c l ls st ≡ ok (done st (suc st.frames) v) = frame_is ∙ ap (λ (o : Outcome ModelWork). o >>= λ v. ok (done st (suc st.frames) v)) b in
-                subst (λ (s : Said). CalledBy g c l T m' eps places s (Done (turnedOf d (d.frames + 1) x))) (sym (runs ∙ ap framed b))
-                (calledDone (fs ++ (hearing ls st.table ∷ [])) refl
+                subst (λ (s : Said). CalledBy g c l T m' eps places s (Done (turned_of d (d.frames + 1) x))) (sym (runs ∙ ap framed b))
+                (called_done (fs ++ (hearing ls st.table ∷ [])) refl
                 (record {
-                  fixed = fixed_moved R.fixed m' L (1 - d.side) (d.frames + 1) x.seq x.used (other-side d.side R.fixed.side);
-                  standing = subst (Ok (Standing g (fs ++ (hearing ls st.table ∷ [])))) made (frame-standing g R.fixed.good R.fixed.floats c l st fs ls R.standing);
-                  margin-is = R.margin-is;
+                  fixed = fixed_moved R.fixed m' L (1 - d.side) (d.frames + 1) x.seq x.used (other_side d.side R.fixed.side);
+                  standing = subst (Ok (Standing g (fs ++ (hearing ls st.table ∷ [])))) made (frame_standing g R.fixed.good R.fixed.floats c l st fs ls R.standing);
+                  margin_is = R.margin_is;
                   idle = R.idle;
-                  frames-are = sym next;
-                  seq-is = A.stood.seq;
+                  frames_are = sym next;
+                  seq_is = A.stood.seq;
                   fits = A.stood.fits;
                   h = A.stood.rep.h;
                   stands = A.stood.rep.stands;
-                  finished = subst (λ (b : ℕ). Shown A.stood.rep.h x.used m'.tokens m'.sums b d.graph.states v.table) (sym (back-side d.side R.fixed.side)) A.stood.rep.progress;
+                  finished = subst (λ (b : ℕ). Shown A.stood.rep.h x.used m'.tokens m'.sums b d.graph.states v.table) (sym (back_side d.side R.fixed.side)) A.stood.rep.progress;
                   newest = A.stood.rep.newest;
                 }))
 
-        pub frame_back : (n : ℕ) → r ≡ NotPassed n → (b : Decoder) → BackIs m'.tokens m'.sums d b → (r' : Called) → r' ≡ Refused b (record { number = n; place = AtFrames b.frames }) → CalledBy g c l T m' eps places (call g c l (frameCall ls) st) r'
+        pub frame_back : (n : ℕ) → r ≡ NotPassed n → (b : Decoder) → BackIs m'.tokens m'.sums d b → (r' : Called) → r' ≡ Refused b (record { number = n; place = AtFrames b.frames }) → CalledBy g c l T m' eps places (call g c l (frame_call ls) st) r'
         unfolding framed
         frame_back n q b B r' z =
-            subst (CalledBy g c l T m' eps places (call g c l (frameCall ls) st)) (sym (z ∙ ap (λ (y : Decoder). Refused y (record { number = n; place = AtFrames y.frames })) B.is))
+            subst (CalledBy g c l T m' eps places (call g c l (frame_call ls) st)) (sym (z ∙ ap (λ (y : Decoder). Refused y (record { number = n; place = AtFrames y.frames })) B.is))
             (go (run_of H c ls st.table st.seq st.fresh) refl (subst (Ends _) q ends))
           where
-            go : (o : Outcome ModelWork) → run_of H c ls st.table st.seq st.fresh ≡ o → Ends o (NotPassed n) → CalledBy g c l T m' eps places (call g c l (frameCall ls) st) (Refused (moved_to d d.side d.frames d.seq B.used) (record { number = n; place = AtFrames d.frames }))
-            go o b (endedRefused j ne old) =
+            go : (o : Outcome ModelWork) → run_of H c ls st.table st.seq st.fresh ≡ o → Ends o (NotPassed n) → CalledBy g c l T m' eps places (call g c l (frame_call ls) st) (Refused (moved_to d d.side d.frames d.seq B.used) (record { number = n; place = AtFrames d.frames }))
+            go o b (ended_refused j ne old) =
                 let low = fewer old.finished B.newest in
                 subst (λ (s : Said). CalledBy g c l T m' eps places s (Refused (moved_to d d.side d.frames d.seq B.used) (record { number = n; place = AtFrames d.frames }))) (sym (runs ∙ ap framed b))
-                (calledRefused fs (ap (λ (i : ℕ). refusalAnswer (record { number = n; place = atFrames i })) R.frames-are)
+                (called_refused fs (ap (λ (i : ℕ). refusal_answer (record { number = n; place = at_frames i })) R.frames_are)
                 (record {
                   fixed = fixed_moved R.fixed m' L d.side d.frames d.seq B.used R.fixed.side;
                   standing = R.standing;
-                  margin-is = R.margin-is;
+                  margin_is = R.margin_is;
                   idle = R.idle;
-                  frames-are = R.frames-are;
-                  seq-is = R.seq-is;
+                  frames_are = R.frames_are;
+                  seq_is = R.seq_is;
                   fits = let z = old.fits in omega arith;
                   h = old.h;
                   stands = stands_fewer m' low old.stands;
-                  finished = shown-fewer old.finished B.newest;
-                  newest = newest-low old.finished B.newest st.fresh old.stands.none (λ s t a. (R.standing.active.sound s t a).falls);
+                  finished = shown_fewer old.finished B.newest;
+                  newest = newest_low old.finished B.newest st.fresh old.stands.none (λ s t a. (R.standing.active.sound s t a).falls);
                 }))

@@ -1,18 +1,18 @@
 -- What the decoder's value and the lent stores stand for between calls.
 use Rattle.std.specs.Prelude.{◌≡◌, refl, ℕ, ◌-◌, ◌≤◌, ◌<◌, false, List, ltb, length, get_or}
 use Rattle.std.proofs.Math.Option.{none, some}
-use Rattle.model.specs.Basics.{0f, Place, nowhere, atArc, atState, atFrames, Refusal as ModelRefusal}
-use Rattle.model.specs.Graph.{Graph, states, hasEps}
+use Rattle.model.specs.Basics.{0f, Place, nowhere, at_arc, at_state, at_frames, Refusal as ModelRefusal}
+use Rattle.model.specs.Graph.{Graph, states, has_eps}
 use Rattle.model.specs.Checked.{GoodGraph}
-use Rattle.model.specs.Path.{Path, Limits, fullAt}
+use Rattle.model.specs.Path.{Path, Limits, full_at}
 use Rattle.model.specs.Cutoff.{Config as Settings}
 use Rattle.model.specs.Passes.{State}
-use Rattle.model.specs.Calls.{doneAnswer, refusalAnswer, Said}
+use Rattle.model.specs.Calls.{done_answer, refusal_answer, Said}
 use Rattle.copy_laws.specs.Walks.{Heard}
 use Rattle.copy_laws.specs.Sums.{Floats32}
 use Rattle.copy_laws.specs.States.{Standing}
-use Rattle.cutoff.specs.Costs.{configOf}
-use Rattle.joins.specs.Model.{marginOf}
+use Rattle.cutoff.specs.Costs.{config_of}
+use Rattle.joins.specs.Model.{margin_of}
 use Rattle.records.specs.History.{History, tag}
 use Rattle.records.specs.Stands.{Stands}
 use Rattle.stores.specs.Shown.{Shown}
@@ -21,7 +21,7 @@ use Rattle.refusals.specs.declared.Place.{Place as StoredPlace}
 use Rattle.refusals.specs.declared.Place.TheVariants.{Nowhere, AtArc, AtState, AtFrames}
 use Rattle.refusals.specs.declared.Refusal.{Refusal}
 use Rattle.arrivals.specs.declared.Setting.{Setting}
-use Rattle.arrivals.specs.Settled.{marginIn}
+use Rattle.arrivals.specs.Settled.{margin_in}
 use Rattle.arcs.specs.declared.Pass.TheVariants.{Nonemitting}
 use Rattle.arcs.specs.State.{Tables, TablesOf}
 use Rattle.decoder.specs.declared.Decoder.{Decoder}
@@ -33,35 +33,35 @@ setting_of d = record { side = d.side; states = d.graph.states; cap = d.cap; fra
 
 -- the exact limits: the places for records, and those of the queue
 pub record LimitsAre (l : Limits) (cap places : ℕ) : Type 0 where
-  pub full : (ps : List Path) → l.full ps ≡ fullAt cap ps
+  pub full : (ps : List Path) → l.full ps ≡ full_at cap ps
   pub queue : l.queue ≡ some places
 
 -- the limits of these places, and of a decoder's own stores
-abbrev pub limitsBy : (cap places : ℕ) → Limits
-limitsBy cap places = record { full = fullAt cap; queue = some places; below = none; kept = none }
+abbrev pub limits_by : (cap places : ℕ) → Limits
+limits_by cap places = record { full = full_at cap; queue = some places; below = none; kept = none }
 
-pub limits-by : (cap places : ℕ) → LimitsAre (limitsBy cap places) cap places
-limits-by cap places = record { full = λ ps. refl; queue = refl }
+pub limits_by_lem : (cap places : ℕ) → LimitsAre (limits_by cap places) cap places
+limits_by_lem cap places = record { full = λ ps. refl; queue = refl }
 
 abbrev pub exact : Decoder → (places : ℕ) → Limits
-exact d places = limitsBy d.cap places
+exact d places = limits_by d.cap places
 
 -- what no call changes: the graph is accepted and its tables are those lent, and the stores have the places that a fitting asks for
 pub record Fixed (g : Graph) (c : Settings) (l : Limits) (T : Tables) (m : Lent) (eps : List ℕ) (places : ℕ) (d : Decoder) : Type 0 where
   pub good : GoodGraph g
   pub floats : Floats32 g
   pub of : TablesOf g Nonemitting T
-  pub states-are : d.graph.states ≡ states g
-  pub arcs-are : d.graph.arcs ≡ length g.ilabels
+  pub states_are : d.graph.states ≡ states g
+  pub arcs_are : d.graph.arcs ≡ length g.ilabels
   pub start_is : d.graph.start ≡ g.start
-  pub pdfs-are : d.graph.pdfs ≡ g.pdfs
-  pub config-is : configOf d.config ≡ c
+  pub pdfs_are : d.graph.pdfs ≡ g.pdfs
+  pub config_is : config_of d.config ≡ c
   pub limits : LimitsAre l d.cap places
   pub small : d.cap ≤ 1048576
   pub side : d.side ≤ 1
   pub stores : Places d.graph.states d.cap m
-  pub eps-long : d.graph.states ≤ length eps
-  pub eps-is : (s : ℕ) → s < d.graph.states → ltb 0 (get_or eps s 0) ≡ hasEps g s
+  pub eps_long : d.graph.states ≤ length eps
+  pub eps_is : (s : ℕ) → s < d.graph.states → ltb 0 (get_or eps s 0) ≡ has_eps g s
 
 -- without a margin its value is 0
 abbrev pub Idle : Decoder → Type 0
@@ -71,10 +71,10 @@ Idle d = d.keeps ≡ false → d.margin ≡ 0f
 pub record Represents (g : Graph) (c : Settings) (l : Limits) (T : Tables) (m : Lent) (eps : List ℕ) (places : ℕ) (d : Decoder) (fs : List Heard) (st : State) : Type 0 where
   pub fixed : Fixed g c l T m eps places d
   pub standing : Standing g fs st
-  pub margin-is : st.margin ≡ marginOf (marginIn (setting_of d))
+  pub margin_is : st.margin ≡ margin_of (margin_in (setting_of d))
   pub idle : Idle d
-  pub frames-are : st.frames ≡ d.frames
-  pub seq-is : st.seq ≡ d.seq
+  pub frames_are : st.frames ≡ d.frames
+  pub seq_is : st.seq ≡ d.seq
   pub fits : d.used ≤ d.cap
   pub h : ℕ → History
   pub stands : Stands (store_of m) d.used h
@@ -94,14 +94,14 @@ pub record Left (T : Tables) (m : Lent) (eps : List ℕ) (places : ℕ) (d : Dec
 
 abbrev pub place_of : StoredPlace → Place
 place_of Nowhere = nowhere
-place_of (AtArc s i) = atArc s i
-place_of (AtState s) = atState s
-place_of (AtFrames n) = atFrames n
+place_of (AtArc s i) = at_arc s i
+place_of (AtState s) = at_state s
+place_of (AtFrames n) = at_frames n
 
-abbrev pub refusalOf : Refusal → ModelRefusal
-refusalOf r = record { number = r.number; place = place_of r.place }
+abbrev pub refusal_of : Refusal → ModelRefusal
+refusal_of r = record { number = r.number; place = place_of r.place }
 
 -- the answer and the next state are the definition's
 pub data CalledBy (g : Graph) (c : Settings) (l : Limits) (T : Tables) (m : Lent) (eps : List ℕ) (places : ℕ) (s : Said) : Called → Type 0 where
-  calledDone : {d : Decoder} (fs : List Heard) → s.answer ≡ doneAnswer → Represents g c l T m eps places d fs s.state → CalledBy g c l T m eps places s (Done d)
-  calledRefused : {d : Decoder} {f : Refusal} (fs : List Heard) → s.answer ≡ refusalAnswer (refusalOf f) → Represents g c l T m eps places d fs s.state → CalledBy g c l T m eps places s (Refused d f)
+  called_done : {d : Decoder} (fs : List Heard) → s.answer ≡ done_answer → Represents g c l T m eps places d fs s.state → CalledBy g c l T m eps places s (Done d)
+  called_refused : {d : Decoder} {f : Refusal} (fs : List Heard) → s.answer ≡ refusal_answer (refusal_of f) → Represents g c l T m eps places d fs s.state → CalledBy g c l T m eps places s (Refused d f)

@@ -3,14 +3,14 @@ ghost use Rattle.std.specs.Prelude.{◌≡◌, ◌⊎◌, cond, ◌*◌, ◌-◌
 ghost use Rattle.model.specs.Basics.{0f};
 ghost use Rattle.stores.specs.Rep.{lent};
 ghost use Rattle.arcs.specs.State.{tables};
-ghost use Rattle.nonemitting.specs.Expand.{graphTables};
+ghost use Rattle.nonemitting.specs.Expand.{graph_tables};
 ghost use Rattle.fst.specs.Answer.{graph_of};
 ghost use Rattle.decoder.specs.Represents.{setting_of, Left};
-ghost use Rattle.decoder.specs.Contracts.{Behind, StartIs, FrameIs, withMargin, keepOf, unfit, fittedBy, FitIs, FrameLeft};
-ghost use Rattle.decoder.specs.Begin.{moved_to, emptiedOf, turnedOf, BothCleared, BeginAsks, BeginIs};
+ghost use Rattle.decoder.specs.Contracts.{Behind, StartIs, FrameIs, with_margin, keep_of, unfit, fitted_by, FitIs, FrameLeft};
+ghost use Rattle.decoder.specs.Begin.{moved_to, emptied_of, turned_of, BothCleared, BeginAsks, BeginIs};
 ghost use Rattle.decoder.specs.Frame.{NewestIs, BackIs, RunGiven, RunIs};
 ghost use Rattle.decoder.specs.Parts.{AdvanceIs};
-ghost use Rattle.decoder.specs.Fit.{lengthsOf, newDecoder};
+ghost use Rattle.decoder.specs.Fit.{lengths_of, new_decoder};
 
 use arcs::{Passed, Work};
 use arrivals::Setting;
@@ -95,7 +95,7 @@ fn moved_to(d: Decoder, side: u32, frames: u32, seq: u32, used: u32) -> Decoder
 
 // No tokens, no records and zero frames.
 fn emptied(d: Decoder) -> Decoder
-    ensures { result ≡ emptiedOf d }
+    ensures { result ≡ emptied_of d }
 {
     moved_to(d, d.side, 0, 0, 0)
 }
@@ -103,7 +103,7 @@ fn emptied(d: Decoder) -> Decoder
 // The table in progress becomes the finished one.
 fn turned(d: Decoder, frames: u32, w: Work) -> Decoder
     requires { d.side ≤ 1 }
-    ensures { result ≡ turnedOf d frames w }
+    ensures { result ≡ turned_of d frames w }
 {
     moved_to(d, 1 - d.side, frames, w.seq, w.used)
 }
@@ -134,8 +134,8 @@ fn begin(
     tid2phone: &[i32],
     decoder: Decoder,
 ) -> Called
-    requires { BeginAsks (graphTables offsets.now ilabels.now olabels.now weights.now nextstates.now tid2pdf.now tid2phone.now) (lent tokens.old sums.old records.old labels.old gaps.old) eps.now (length queue.old) decoder }
-    ensures { BeginIs (graphTables offsets.now ilabels.now olabels.now weights.now nextstates.now tid2pdf.now tid2phone.now) (lent tokens.old sums.old records.old labels.old gaps.old) (lent tokens.new sums.new records.new labels.new gaps.new) eps.now (length queue.old) decoder result }
+    requires { BeginAsks (graph_tables offsets.now ilabels.now olabels.now weights.now nextstates.now tid2pdf.now tid2phone.now) (lent tokens.old sums.old records.old labels.old gaps.old) eps.now (length queue.old) decoder }
+    ensures { BeginIs (graph_tables offsets.now ilabels.now olabels.now weights.now nextstates.now tid2pdf.now tid2phone.now) (lent tokens.old sums.old records.old labels.old gaps.old) (lent tokens.new sums.new records.new labels.new gaps.new) eps.now (length queue.old) decoder result }
 {
     let states = decoder.graph.states;
     let first = decoder.graph.start;
@@ -202,8 +202,8 @@ fn begin_within(
     tid2phone: &[i32],
     d: Decoder,
 ) -> Called
-    requires { BeginAsks (graphTables offsets.now ilabels.now olabels.now weights.now nextstates.now tid2pdf.now tid2phone.now) (lent tokens.old sums.old records.old labels.old gaps.old) eps.now (length queue.old) d }
-    ensures { (BeginIs (graphTables offsets.now ilabels.now olabels.now weights.now nextstates.now tid2pdf.now tid2phone.now) (lent tokens.old sums.old records.old labels.old gaps.old) (lent tokens.new sums.new records.new labels.new gaps.new) eps.now (length queue.old) d result) × (Behind d.graph.states d.cap (lent tokens.old sums.old records.old labels.old gaps.old) (lent tokens.new sums.new records.new labels.new gaps.new)) }
+    requires { BeginAsks (graph_tables offsets.now ilabels.now olabels.now weights.now nextstates.now tid2pdf.now tid2phone.now) (lent tokens.old sums.old records.old labels.old gaps.old) eps.now (length queue.old) d }
+    ensures { (BeginIs (graph_tables offsets.now ilabels.now olabels.now weights.now nextstates.now tid2pdf.now tid2phone.now) (lent tokens.old sums.old records.old labels.old gaps.old) (lent tokens.new sums.new records.new labels.new gaps.new) eps.now (length queue.old) d result) × (Behind d.graph.states d.cap (lent tokens.old sums.old records.old labels.old gaps.old) (lent tokens.new sums.new records.new labels.new gaps.new)) }
 {
     let t = d.graph.states as usize * 8;
     let s = d.graph.states as usize * 4;
@@ -229,7 +229,7 @@ fn begin_within(
 }
 
 fn new_decoder(graph: Graph, config: Config, cap: u32) -> Decoder
-    ensures { result ≡ newDecoder graph config cap }
+    ensures { result ≡ new_decoder graph config cap }
 {
     Decoder {
         graph,
@@ -245,7 +245,7 @@ fn new_decoder(graph: Graph, config: Config, cap: u32) -> Decoder
 }
 
 fn fitted_by(called: Called) -> Fitted
-    ensures { result ≡ fittedBy called }
+    ensures { result ≡ fitted_by called }
 {
     match called {
         Called::Done(d) => Fitted::Done(d),
@@ -288,7 +288,7 @@ pub fn fit(
     pdfs: u32,
     config: Config,
 ) -> Fitted
-    ensures { FitIs (graph_of offsets.now ilabels.now olabels.now weights.now nextstates.now finals.now tid2pdf.now tid2phone.now start pdfs) (graphTables offsets.now ilabels.now olabels.now weights.now nextstates.now tid2pdf.now tid2phone.now) (lent tokens.old sums.old records.old labels.old gaps.old) (lent tokens.new sums.new records.new labels.new gaps.new) (lengthsOf (lent tokens.old sums.old records.old labels.old gaps.old) eps.old scratch.now keys.now places.now own.now heads.now list.now lists.now route.now history_keys.now history_skips.now kept_hashes.now kept_links.now kept_sums.now order.now) queue.old queue.new eps.old eps.new config result }
+    ensures { FitIs (graph_of offsets.now ilabels.now olabels.now weights.now nextstates.now finals.now tid2pdf.now tid2phone.now start pdfs) (graph_tables offsets.now ilabels.now olabels.now weights.now nextstates.now tid2pdf.now tid2phone.now) (lent tokens.old sums.old records.old labels.old gaps.old) (lent tokens.new sums.new records.new labels.new gaps.new) (lengths_of (lent tokens.old sums.old records.old labels.old gaps.old) eps.old scratch.now keys.now places.now own.now heads.now list.now lists.now route.now history_keys.now history_skips.now kept_hashes.now kept_links.now kept_sums.now order.now) queue.old queue.new eps.old eps.new config result }
 {
     match fst::build(
         offsets, ilabels, olabels, weights, nextstates, finals, tid2pdf, tid2phone, start, pdfs,
@@ -348,8 +348,8 @@ pub fn start(
     tid2phone: &[i32],
     decoder: Decoder,
 ) -> Called
-    requires { Left (graphTables offsets.now ilabels.now olabels.now weights.now nextstates.now tid2pdf.now tid2phone.now) (lent tokens.old sums.old records.old labels.old gaps.old) eps.now (length queue.old) decoder }
-    ensures { StartIs (graphTables offsets.now ilabels.now olabels.now weights.now nextstates.now tid2pdf.now tid2phone.now) (lent tokens.old sums.old records.old labels.old gaps.old) (lent tokens.new sums.new records.new labels.new gaps.new) queue.old queue.new eps.now decoder result }
+    requires { Left (graph_tables offsets.now ilabels.now olabels.now weights.now nextstates.now tid2pdf.now tid2phone.now) (lent tokens.old sums.old records.old labels.old gaps.old) eps.now (length queue.old) decoder }
+    ensures { StartIs (graph_tables offsets.now ilabels.now olabels.now weights.now nextstates.now tid2pdf.now tid2phone.now) (lent tokens.old sums.old records.old labels.old gaps.old) (lent tokens.new sums.new records.new labels.new gaps.new) queue.old queue.new eps.now decoder result }
 {
     begin_within(
         tokens, sums, records, labels, gaps, queue, eps, offsets, ilabels, olabels, weights,
@@ -449,8 +449,8 @@ fn advance(
     loglikes: &[f32],
     decoder: Decoder,
 ) -> Called
-    requires { FrameLeft (graphTables offsets.now ilabels.now olabels.now weights.now nextstates.now tid2pdf.now tid2phone.now) (lent tokens.old sums.old records.old labels.old gaps.old) eps.now (length queue.old) (length scratch.old) decoder }
-    ensures { AdvanceIs (graphTables offsets.now ilabels.now olabels.now weights.now nextstates.now tid2pdf.now tid2phone.now) (lent tokens.old sums.old records.old labels.old gaps.old) (lent tokens.new sums.new records.new labels.new gaps.new) queue.old queue.new scratch.old scratch.new eps.now loglikes.now decoder result }
+    requires { FrameLeft (graph_tables offsets.now ilabels.now olabels.now weights.now nextstates.now tid2pdf.now tid2phone.now) (lent tokens.old sums.old records.old labels.old gaps.old) eps.now (length queue.old) (length scratch.old) decoder }
+    ensures { AdvanceIs (graph_tables offsets.now ilabels.now olabels.now weights.now nextstates.now tid2pdf.now tid2phone.now) (lent tokens.old sums.old records.old labels.old gaps.old) (lent tokens.new sums.new records.new labels.new gaps.new) queue.old queue.new scratch.old scratch.new eps.now loglikes.now decoder result }
 {
     let wrong = checks::check_frame(loglikes, decoder.frames, decoder.graph.pdfs);
     if wrong != 0 {
@@ -504,8 +504,8 @@ pub fn frame(
     loglikes: &[f32],
     decoder: Decoder,
 ) -> Called
-    requires { FrameLeft (graphTables offsets.now ilabels.now olabels.now weights.now nextstates.now tid2pdf.now tid2phone.now) (lent tokens.old sums.old records.old labels.old gaps.old) eps.now (length queue.old) (length scratch.old) decoder }
-    ensures { FrameIs (graphTables offsets.now ilabels.now olabels.now weights.now nextstates.now tid2pdf.now tid2phone.now) (lent tokens.old sums.old records.old labels.old gaps.old) (lent tokens.new sums.new records.new labels.new gaps.new) queue.old queue.new scratch.old scratch.new eps.now loglikes.now decoder result }
+    requires { FrameLeft (graph_tables offsets.now ilabels.now olabels.now weights.now nextstates.now tid2pdf.now tid2phone.now) (lent tokens.old sums.old records.old labels.old gaps.old) eps.now (length queue.old) (length scratch.old) decoder }
+    ensures { FrameIs (graph_tables offsets.now ilabels.now olabels.now weights.now nextstates.now tid2pdf.now tid2phone.now) (lent tokens.old sums.old records.old labels.old gaps.old) (lent tokens.new sums.new records.new labels.new gaps.new) queue.old queue.new scratch.old scratch.new eps.now loglikes.now decoder result }
 {
     let t = decoder.graph.states as usize * 8;
     let s = decoder.graph.states as usize * 4;
@@ -540,7 +540,7 @@ fn kept_margin(keeps: bool, margin: f32) -> f32
 }
 
 fn with_margin(d: Decoder, keeps: bool, margin: f32) -> Decoder
-    ensures { result ≡ withMargin d keeps margin }
+    ensures { result ≡ with_margin d keeps margin }
 {
     let graph = d.graph;
     let config = d.config;
@@ -559,7 +559,7 @@ fn with_margin(d: Decoder, keeps: bool, margin: f32) -> Decoder
 
 // The keep margin, or none.
 pub fn set_keep(decoder: Decoder, keeps: bool, margin: f32) -> Called
-    ensures { result ≡ keepOf decoder keeps margin }
+    ensures { result ≡ keep_of decoder keeps margin }
 {
     if checks::margin_wrong(keeps, margin) {
         return Called::Refused(decoder, refused());

@@ -4,19 +4,19 @@ use Rattle.std.proofs.Common.{sym, ◌∙◌, arith}
 use Rattle.std.specs.Prelude.{ℕ, ◌-◌, ◌*◌, ◌/◌, ◌≤◌, Bool, List, [], ◌∷◌, ℤ, Float}
 use mathlib.Core.List.Memᴰ.{head as here}
 use mathlib.Core.List.Memᴰ.{tail as there}
-use Rattle.model.specs.Calls.{readingsRead, readCall, readAnswer, call}
-use Rattle.traceback.specs.Best.{walkable-of}
-use Rattle.readings.specs.Known.{ranks-known}
+use Rattle.model.specs.Calls.{readings_read, read_call, read_answer, call}
+use Rattle.traceback.specs.Best.{walkable_of}
+use Rattle.readings.specs.Known.{ranks_known}
 use Rattle.listing_laws.specs.Situation.{Situation}
 use Rattle.listing.specs.Listed.{scratch, StoresAsk, ListingAsks}
 use Rattle.reading_list.specs.declared.ReadingList.{ReadingList}
-use Rattle.reading_list.specs.Outputs.{Outputs, placesIn}
+use Rattle.reading_list.specs.Outputs.{Outputs, places_in}
 use Rattle.reading_list.specs.Right.{ReadingsAre, ReadingsRight}
 use Rattle.decoder.specs.declared.Decoder.{Decoder}
 use Rattle.checks.specs.Fit.{Wide}
 use Rattle.decoder.specs.Contracts.{LeftOf, GapsLeft, holding}
 use Rattle.decoder.specs.Keep.{asked_is}
-use Rattle.decoder_reads.specs.Reads.{histories-wide, finals-long, best-asks}
+use Rattle.decoder_reads.specs.Reads.{histories_wide, finals_long, best_asks}
 
 module _ {tk : List ℕ} {sm : List Float} {rs : List ℕ} {ls : List ℤ} {gs finals : List Float} {d : Decoder} (F : GapsLeft tk sm rs ls gs finals d) where
   abbrev of : LeftOf tk sm rs ls d
@@ -30,43 +30,43 @@ module _ {tk : List ℕ} {sm : List Float} {rs : List ℕ} {ls : List ℤ} {gs f
         g = L.g;
         good = R.fixed.good;
         floats = R.fixed.floats;
-        finals = F.finals-are;
-        long = finals-long of finals F.finals-are;
+        finals = F.finals_are;
+        long = finals_long of finals F.finals_are;
         heard = L.fs;
         st = L.st;
         standing = R.standing;
-        margin-is = R.margin-is ∙ sym (asked_is d.keeps d.margin);
+        margin_is = R.margin_is ∙ sym (asked_is d.keeps d.margin);
         h = R.h;
         stands = R.stands;
         shown = R.finished;
       }
 
-  stores-ask : StoresAsk tk sm finals rs ls gs d.graph.states (1 - d.side) d.used d.keeps d.margin
-  stores-ask =
+  stores_ask : StoresAsk tk sm finals rs ls gs d.graph.states (1 - d.side) d.used d.keeps d.margin
+  stores_ask =
       let L = F.left in
       let f = L.is.fixed in
-      let asks = best-asks of finals F.finals-are in
+      let asks = best_asks of finals F.finals_are in
       record {
         side = asks.side;
         tokens = asks.tokens;
         sums = asks.sums;
         finals = asks.finals;
-        walkable = walkable-of asks;
+        walkable = walkable_of asks;
         gaps = let k = f.stores.store.gaps in let u = L.is.fits in omega arith;
-        few = let z = f.states-are in let k = f.good.shape.states-few in omega arith;
-        few-records = asks.few;
+        few = let z = f.states_are in let k = f.good.shape.states_few in omega arith;
+        few_records = asks.few;
         situation = situation;
-        known = ranks-known L.g f.good f.floats L.fs L.st L.is.standing.active L.is.finished finals F.finals-are asks.finals;
+        known = ranks_known L.g f.good f.floats L.fs L.st L.is.standing.active L.is.finished finals F.finals_are asks.finals;
       }
 
-  pub readings-asks : (keys places own heads list lists route history-keys history-skips order kept : ℕ) → Wide d.graph.states (keys ∷ places ∷ own ∷ heads ∷ list ∷ []) → Wide d.cap (lists / 2 ∷ route ∷ history-keys / 2 ∷ history-skips / 2 ∷ [])
+  pub readings_asks : (keys places own heads list lists route history_keys history_skips order kept : ℕ) → Wide d.graph.states (keys ∷ places ∷ own ∷ heads ∷ list ∷ []) → Wide d.cap (lists / 2 ∷ route ∷ history_keys / 2 ∷ history_skips / 2 ∷ [])
       → Wide kept (keys ∷ order ∷ (list - d.graph.states) ∷ [])
-      → ListingAsks tk sm finals rs ls gs d.graph.states (1 - d.side) d.used d.keeps d.margin kept (scratch keys places own heads list lists route order) × (d.used * 2 ≤ history-keys) × (d.used * 2 ≤ history-skips)
-  readings-asks keys places own heads list lists route history-keys history-skips order kept wide records keeps =
+      → ListingAsks tk sm finals rs ls gs d.graph.states (1 - d.side) d.used d.keeps d.margin kept (scratch keys places own heads list lists route order) × (d.used * 2 ≤ history_keys) × (d.used * 2 ≤ history_skips)
+  readings_asks keys places own heads list lists route history_keys history_skips order kept wide records keeps =
       let u = F.left.is.fits in
-      let h = histories-wide of history-keys history-skips (λ k i. records k (there (there i))) in (
+      let h = histories_wide of history_keys history_skips (λ k i. records k (there (there i))) in (
         record {
-          stores = stores-ask;
+          stores = stores_ask;
           wide = record {
             keys = wide keys (here refl);
             keys_kept = keeps keys (here refl);
@@ -83,8 +83,8 @@ module _ {tk : List ℕ} {sm : List Float} {rs : List ℕ} {ls : List ℤ} {gs f
         h.1,
       )
 
-  pub readings-is : (use-final : Bool) (listed max entries kept : ℕ) (o o' : Outputs) (r : ReadingList)
-      → ReadingsRight tk sm finals rs ls gs d.graph.states (1 - d.side) d.used d.keeps d.margin d.frames use-final listed max entries kept o o' r
-      → let L = F.left in ReadingsAre (call L.g L.c (holding L.l entries kept) (readCall (readingsRead use-final listed max (placesIn o))) L.st).answer max o o' r
-  unfolding call readAnswer
-  readings-is use-final listed max entries kept o o' r B = B.answer situation F.left.is.frames-are (holding F.left.l entries kept) (record { below = refl; kept-are = refl })
+  pub readings_is : (use_final : Bool) (listed max entries kept : ℕ) (o o' : Outputs) (r : ReadingList)
+      → ReadingsRight tk sm finals rs ls gs d.graph.states (1 - d.side) d.used d.keeps d.margin d.frames use_final listed max entries kept o o' r
+      → let L = F.left in ReadingsAre (call L.g L.c (holding L.l entries kept) (read_call (readings_read use_final listed max (places_in o))) L.st).answer max o o' r
+  unfolding call read_answer
+  readings_is use_final listed max entries kept o o' r B = B.answer situation F.left.is.frames_are (holding F.left.l entries kept) (record { below = refl; kept_are = refl })

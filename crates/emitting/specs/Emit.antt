@@ -6,23 +6,23 @@ use Rattle.std.proofs.Math.Option.{Option, none, some}
 use mathlib.Core.List.{List, [], ◌∷◌}
 use Rattle.std.proofs.Math.ListN.{drop, drop_of_length-le}
 use Rattle.model.specs.Basics.{◌≺◌, Outcome, ok, ◌>>=◌}
-use Rattle.model.specs.Graph.{arcsOf}
+use Rattle.model.specs.Graph.{arcs_of}
 use Rattle.model.specs.Path.{Path, Token, Table}
-use Rattle.model.specs.Arrive.{Pass as ModelPass, Here, Work as ModelWork, arriveAll}
-use Rattle.model.specs.Passes.{emitFrom}
+use Rattle.model.specs.Arrive.{Pass as ModelPass, Here, Work as ModelWork, arrive_all}
+use Rattle.model.specs.Passes.{emit_from}
 use Rattle.tokens.specs.declared.Token.{Token as Stored}
-use Rattle.tokens.specs.Layout.{place_in, held_at, cell_at, cell_of, tokenOf, NextActive}
+use Rattle.tokens.specs.Layout.{place_in, held_at, cell_at, cell_of, token_of, NextActive}
 use Rattle.stores.specs.Shown.{Is, TokenIs}
-use Rattle.stores.specs.Tables.{Active, active-at, stored_is, skip-to}
+use Rattle.stores.specs.Tables.{Active, active_at, stored_is, skip_to}
 use Rattle.stores.specs.Rep.{Lent}
 use Rattle.arrivals.specs.declared.Setting.{Setting}
 use Rattle.arcs.specs.declared.Pass.{Pass}
 use Rattle.arcs.specs.declared.Work.{Work}
 use Rattle.arcs.specs.declared.Passed.{Passed}
 use Rattle.arcs.specs.declared.Passed.TheVariants.{Refused, On}
-use Rattle.arcs.specs.Part.{passOf}
+use Rattle.arcs.specs.Part.{pass_of}
 use Rattle.arcs.specs.Passed.{Ground, At}
-use Rattle.arcs.specs.Ended.{EndedBy, endedRefused, endedOn, ended, withLink, in-hand}
+use Rattle.arcs.specs.Ended.{EndedBy, ended_refused, ended_on, ended, with_link, in_hand}
 use Rattle.arcs.specs.State.{Tables, TablesOf, StateGiven, StateIs}
 
 -- ---- one state
@@ -36,22 +36,22 @@ pub record EmitGiven (g : Setting) (m : Lent) (qs eps : List ℕ) (pass : Pass) 
   pub at : At g m qs x done p w
   pub of : TablesOf H.graph pass T
 
-abbrev pub emitBy : Here → ModelPass → (s : ℕ) → Token → ModelWork → Bool → Outcome ModelWork
-emitBy H P s t w b = elim b as (λ z. Outcome ModelWork) [ true ↦ ok w | false ↦ arriveAll H P t (arcsOf H.graph s) w ]
+abbrev pub emit_by : Here → ModelPass → (s : ℕ) → Token → ModelWork → Bool → Outcome ModelWork
+emit_by H P s t w b = elim b as (λ z. Outcome ModelWork) [ true ↦ ok w | false ↦ arrive_all H P t (arcs_of H.graph s) w ]
 
-abbrev pub emitOne : {g : Setting} {m : Lent} {qs eps : List ℕ} {pass : Pass} {T : Tables} {x : Work} → EmitGiven g m qs eps pass T x → (cut : Float) → (s : ℕ) → Token → Outcome ModelWork
-emitOne {pass = pass} {T = T} G cut s t = emitBy G.H (passOf pass T.arcs.loglikes) s t G.w (cut ≺ t.cost)
+abbrev pub emit_one : {g : Setting} {m : Lent} {qs eps : List ℕ} {pass : Pass} {T : Tables} {x : Work} → EmitGiven g m qs eps pass T x → (cut : Float) → (s : ℕ) → Token → Outcome ModelWork
+emit_one {pass = pass} {T = T} G cut s t = emit_by G.H (pass_of pass T.arcs.loglikes) s t G.w (cut ≺ t.cost)
 
 -- the state is active in the finished table
 abbrev pub ActiveAt : Setting → Lent → ℕ → Type 0
 ActiveAt g m s = (s < g.states) × (held_at m.tokens (place_in (1 - g.side) s) ≡ 0 → ⊥)
 
 abbrev pub EmitStateIs : (g : Setting) → (m m' : Lent) → (qs qs' eps : List ℕ) → Pass → Tables → (cut : Float) → Work → (s : ℕ) → Passed → Type 0
-EmitStateIs g m m' qs qs' eps pass T cut x s r = (G : EmitGiven g m qs eps pass T x) (t : Token) → get_or G.done s none ≡ some t → EndedBy g m' qs' G.done (emitOne G cut s t) r
+EmitStateIs g m m' qs qs' eps pass T cut x s r = (G : EmitGiven g m qs eps pass T x) (t : Token) → get_or G.done s none ≡ some t → EndedBy g m' qs' G.done (emit_one G cut s t) r
 
-module _ {g : Setting} {m : Lent} {qs eps : List ℕ} {pass : Pass} {T : Tables} {x : Work} (G : EmitGiven g m qs eps pass T x) (s : ℕ) (act : ActiveAt g m s) (y : Stored) (y-is : y ≡ tokenOf (cell_at m.tokens m.sums (place_in (1 - g.side) s))) where
+module _ {g : Setting} {m : Lent} {qs eps : List ℕ} {pass : Pass} {T : Tables} {x : Work} (G : EmitGiven g m qs eps pass T x) (s : ℕ) (act : ActiveAt g m s) (y : Stored) (y-is : y ≡ token_of (cell_at m.tokens m.sums (place_in (1 - g.side) s))) where
   abbrev here : Active G.at.stood.rep.finished s
-  here = active-at G.at.stood.rep.finished s act.0 act.1
+  here = active_at G.at.stood.rep.finished s act.0 act.1
 
   abbrev t : Token
   t = here.token
@@ -59,15 +59,15 @@ module _ {g : Setting} {m : Lent} {qs eps : List ℕ} {pass : Pass} {T : Tables}
   pub is : TokenIs G.at.stood.rep.h x.used y t
   is = subst (λ (z : Stored). TokenIs G.at.stood.rep.h x.used z t) (sym (y-is ∙ stored_is G.at.stood.rep.finished here)) here.is
 
-  abbrev pub state-given : StateGiven g m qs eps pass T (withLink x y.link) y s
-  state-given =
+  abbrev pub state_given : StateGiven g m qs eps pass T (with_link x y.link) y s
+  state_given =
       record {
         H = G.H;
         t = t;
         w = G.w;
         done = G.done;
         ground = G.ground;
-        at = in-hand y.link t.path G.at is.link;
+        at = in_hand y.link t.path G.at is.link;
         token = record { cost = is.cost; graph = is.graph; phone = is.phone };
         of = G.of;
         low = act.0;
@@ -84,47 +84,47 @@ module _ {g : Setting} {m : Lent} {qs eps : List ℕ} {pass : Pass} {T : Tables}
         some_same : some t ≡ some t' → t ≡ t'
         some_same e = ap of_some e
 
-    test : {b : Bool} → (cut ≺ y.cost) ≡ b → emitOne G cut s t' ≡ emitBy G.H (passOf pass T.arcs.loglikes) s t G.w b
+    test : {b : Bool} → (cut ≺ y.cost) ≡ b → emit_one G cut s t' ≡ emit_by G.H (pass_of pass T.arcs.loglikes) s t G.w b
     test {b} e =
-        ap (λ (u : Token). emitBy G.H (passOf pass T.arcs.loglikes) s u G.w (cut ≺ u.cost)) (sym same) ∙
-        ap (emitBy G.H (passOf pass T.arcs.loglikes) s t G.w) (ap (λ (c : Float). cut ≺ c) (sym is.cost) ∙ e)
+        ap (λ (u : Token). emit_by G.H (pass_of pass T.arcs.loglikes) s u G.w (cut ≺ u.cost)) (sym same) ∙
+        ap (emit_by G.H (pass_of pass T.arcs.loglikes) s t G.w) (ap (λ (c : Float). cut ≺ c) (sym is.cost) ∙ e)
 
-    pub state-skips : (cut ≺ y.cost) ≡ true → EndedBy g m qs G.done (emitOne G cut s t') (On x)
-    state-skips e = subst (λ (o : Outcome ModelWork). EndedBy g m qs G.done o (On x)) (sym (test e)) (endedOn G.p G.at)
+    pub state_skips : (cut ≺ y.cost) ≡ true → EndedBy g m qs G.done (emit_one G cut s t') (On x)
+    state_skips e = subst (λ (o : Outcome ModelWork). EndedBy g m qs G.done o (On x)) (sym (test e)) (ended_on G.p G.at)
 
-    pub state-emits : (m' : Lent) (qs' : List ℕ) (r : Passed) → (cut ≺ y.cost) ≡ false → StateIs g m m' qs qs' eps pass T (withLink x y.link) y s r → EndedBy g m' qs' G.done (emitOne G cut s t') r
-    state-emits m' qs' r e S = subst (λ (o : Outcome ModelWork). EndedBy g m' qs' G.done o r) (sym (test e)) (ended (S state-given))
+    pub state_emits : (m' : Lent) (qs' : List ℕ) (r : Passed) → (cut ≺ y.cost) ≡ false → StateIs g m m' qs qs' eps pass T (with_link x y.link) y s r → EndedBy g m' qs' G.done (emit_one G cut s t') r
+    state_emits m' qs' r e S = subst (λ (o : Outcome ModelWork). EndedBy g m' qs' G.done o r) (sym (test e)) (ended (S state_given))
 
 -- ---- all states
 
-abbrev pub allStates : {g : Setting} {m : Lent} {qs eps : List ℕ} {pass : Pass} {T : Tables} {x : Work} → EmitGiven g m qs eps pass T x → (cut : Float) → Outcome ModelWork
-allStates {pass = pass} {T = T} G cut = emitFrom G.H (passOf pass T.arcs.loglikes) cut 0 G.done G.w
+abbrev pub all_states : {g : Setting} {m : Lent} {qs eps : List ℕ} {pass : Pass} {T : Tables} {x : Work} → EmitGiven g m qs eps pass T x → (cut : Float) → Outcome ModelWork
+all_states {pass = pass} {T = T} G cut = emit_from G.H (pass_of pass T.arcs.loglikes) cut 0 G.done G.w
 
 abbrev pub EmitStatesIs : (g : Setting) → (m m' : Lent) → (qs qs' eps : List ℕ) → Pass → Tables → (cut : Float) → Work → Passed → Type 0
-EmitStatesIs g m m' qs qs' eps pass T cut x r = (G : EmitGiven g m qs eps pass T x) → EndedBy g m' qs' G.done (allStates G cut) r
+EmitStatesIs g m m' qs qs' eps pass T cut x r = (G : EmitGiven g m qs eps pass T x) → EndedBy g m' qs' G.done (all_states G cut) r
 
-emit-step : (H : Here) (P : ModelPass) (cut : Float) (s : ℕ) (t : Token) (ts : Table) (w : ModelWork) → emitFrom H P cut s (some t ∷ ts) w ≡ (emitBy H P s t w (cut ≺ t.cost) >>= λ v. emitFrom H P cut (suc s) ts v)
-unfolding emitFrom
-emit-step H P cut s t ts w = go (cut ≺ t.cost)
+emit_step : (H : Here) (P : ModelPass) (cut : Float) (s : ℕ) (t : Token) (ts : Table) (w : ModelWork) → emit_from H P cut s (some t ∷ ts) w ≡ (emit_by H P s t w (cut ≺ t.cost) >>= λ v. emit_from H P cut (suc s) ts v)
+unfolding emit_from
+emit_step H P cut s t ts w = go (cut ≺ t.cost)
   where
-    go : (b : Bool) → elim b as (λ z. Outcome ModelWork) [ true ↦ emitFrom H P cut (suc s) ts w | false ↦ arriveAll H P t (arcsOf H.graph s) w >>= λ v. emitFrom H P cut (suc s) ts v ] ≡ (emitBy H P s t w b >>= λ v. emitFrom H P cut (suc s) ts v)
+    go : (b : Bool) → elim b as (λ z. Outcome ModelWork) [ true ↦ emit_from H P cut (suc s) ts w | false ↦ arrive_all H P t (arcs_of H.graph s) w >>= λ v. emit_from H P cut (suc s) ts v ] ≡ (emit_by H P s t w b >>= λ v. emit_from H P cut (suc s) ts v)
     go true = refl
     go false = refl
 
-emit-skips : (H : Here) (P : ModelPass) (cut : Float) (w : ModelWork) (s : ℕ) (rest : Table) → emitFrom H P cut s (none ∷ rest) w ≡ emitFrom H P cut (suc s) rest w
-unfolding emitFrom
-emit-skips H P cut w s rest = refl
+emit_skips : (H : Here) (P : ModelPass) (cut : Float) (w : ModelWork) (s : ℕ) (rest : Table) → emit_from H P cut s (none ∷ rest) w ≡ emit_from H P cut (suc s) rest w
+unfolding emit_from
+emit_skips H P cut w s rest = refl
 
 module _ {g : Setting} {m : Lent} {qs eps : List ℕ} {pass : Pass} {T : Tables} {x : Work} (G : EmitGiven g m qs eps pass T x) (cut : Float) where
   abbrev onward : (s : ℕ) → ModelWork → Outcome ModelWork
-  onward s w = emitFrom G.H (passOf pass T.arcs.loglikes) cut s (drop s G.done) w
+  onward s w = emit_from G.H (pass_of pass T.arcs.loglikes) cut s (drop s G.done) w
 
   -- the states below s are done, and s, unless it is the number of states, is active
   pub record SoFar (m' : Lent) (qs' : List ℕ) (x' : Work) (s : ℕ) : Type 0 where
     pub p' : Path
     pub w' : ModelWork
     pub at : At g m' qs' x' G.done p' w'
-    pub rest : allStates G cut ≡ onward s w'
+    pub rest : all_states G cut ≡ onward s w'
 
   skips : {m' : Lent} {qs' : List ℕ} {x' : Work} {s : ℕ} → SoFar m' qs' x' s → (r : ℕ) → NextActive m'.tokens (1 - g.side) s g.states r → SoFar m' qs' x' r
   skips {s = s} F r N =
@@ -132,46 +132,46 @@ module _ {g : Setting} {m : Lent} {qs eps : List ℕ} {pass : Pass} {T : Tables}
         p' = F.p';
         w' = F.w';
         at = F.at;
-        rest = F.rest ∙ skip-to F.at.stood.rep.finished (λ i ts. emitFrom G.H (passOf pass T.arcs.loglikes) cut i ts F.w') (emit-skips G.H (passOf pass T.arcs.loglikes) cut F.w') s r N;
+        rest = F.rest ∙ skip_to F.at.stood.rep.finished (λ i ts. emit_from G.H (pass_of pass T.arcs.loglikes) cut i ts F.w') (emit_skips G.H (pass_of pass T.arcs.loglikes) cut F.w') s r N;
       }
 
   module _ {m' : Lent} {qs' : List ℕ} {x' : Work} {s : ℕ} (F : SoFar m' qs' x' s) where
-    abbrev pub emit-now : length qs' ≡ length qs → EmitGiven g m' qs' eps pass T x'
-    emit-now k = record { H = G.H; w = F.w'; done = G.done; p = F.p'; ground = subst (Ground g G.H G.done eps) (sym k) G.ground; at = F.at; of = G.of }
+    abbrev pub emit_now : length qs' ≡ length qs → EmitGiven g m' qs' eps pass T x'
+    emit_now k = record { H = G.H; w = F.w'; done = G.done; p = F.p'; ground = subst (Ground g G.H G.done eps) (sym k) G.ground; at = F.at; of = G.of }
 
     module _ (act : ActiveAt g m' s) (k : length qs' ≡ length qs) {m'' : Lent} {qs'' : List ℕ} (r : Passed) (step : EmitStateIs g m' m'' qs' qs'' eps pass T cut x' s r) where
       abbrev found : Active F.at.stood.rep.finished s
-      found = active-at F.at.stood.rep.finished s act.0 act.1
+      found = active_at F.at.stood.rep.finished s act.0 act.1
 
       abbrev By : Outcome ModelWork → Passed → Type 0
       By = EndedBy g m'' qs'' G.done
 
-      goes : allStates G cut ≡ (emitOne (emit-now k) cut s found.token >>= λ v. onward (suc s) v)
+      goes : all_states G cut ≡ (emit_one (emit_now k) cut s found.token >>= λ v. onward (suc s) v)
       goes =
           let size = F.at.stood.rep.finished.size in
           F.rest ∙
-          ap (λ (ts : Table). emitFrom G.H (passOf pass T.arcs.loglikes) cut s ts F.w') (drop-cons G.done s none (let l = act.0 in omega arith) ∙ ap (λ (o : Option Token). o ∷ drop (suc s) G.done) found.at) ∙
-          emit-step G.H (passOf pass T.arcs.loglikes) cut s found.token (drop (suc s) G.done) F.w'
+          ap (λ (ts : Table). emit_from G.H (pass_of pass T.arcs.loglikes) cut s ts F.w') (drop-cons G.done s none (let l = act.0 in omega arith) ∙ ap (λ (o : Option Token). o ∷ drop (suc s) G.done) found.at) ∙
+          emit_step G.H (pass_of pass T.arcs.loglikes) cut s found.token (drop (suc s) G.done) F.w'
 
-      next-by : (o : Outcome ModelWork) → allStates G cut ≡ (o >>= λ v. onward (suc s) v) → (x'' : Work) → By o (On x'') → SoFar m'' qs'' x'' (suc s)
-      next-by o q x'' (endedOn {w} p A) = record { p' = p; w' = w; at = A; rest = q }
+      next_by : (o : Outcome ModelWork) → all_states G cut ≡ (o >>= λ v. onward (suc s) v) → (x'' : Work) → By o (On x'') → SoFar m'' qs'' x'' (suc s)
+      next_by o q x'' (ended_on {w} p A) = record { p' = p; w' = w; at = A; rest = q }
 
-      stop-by : (o : Outcome ModelWork) → allStates G cut ≡ (o >>= λ v. onward (suc s) v) → (n : ℕ) → By o (Refused n) → By (allStates G cut) (Refused n)
-      stop-by o q n (endedRefused j d z) = subst (λ (u : Outcome ModelWork). By u (Refused n)) (sym q) (endedRefused n d z)
+      stop_by : (o : Outcome ModelWork) → all_states G cut ≡ (o >>= λ v. onward (suc s) v) → (n : ℕ) → By o (Refused n) → By (all_states G cut) (Refused n)
+      stop_by o q n (ended_refused j d z) = subst (λ (u : Outcome ModelWork). By u (Refused n)) (sym q) (ended_refused n d z)
 
-      pub far-next : (x'' : Work) → r ≡ On x'' → (j : ℕ) → NextActive m''.tokens (1 - g.side) (s + 1) g.states j → SoFar m'' qs'' x'' j
-      far-next x'' d j N =
+      pub far_next : (x'' : Work) → r ≡ On x'' → (j : ℕ) → NextActive m''.tokens (1 - g.side) (s + 1) g.states j → SoFar m'' qs'' x'' j
+      far_next x'' d j N =
           let one : s + 1 ≡ suc s = omega arith in
-          skips (next-by _ goes x'' (subst (By _) d (step (emit-now k) found.token found.at))) j (subst (λ (i : ℕ). NextActive m''.tokens (1 - g.side) i g.states j) one N)
+          skips (next_by _ goes x'' (subst (By _) d (step (emit_now k) found.token found.at))) j (subst (λ (i : ℕ). NextActive m''.tokens (1 - g.side) i g.states j) one N)
 
-      pub far-stop : (n : ℕ) → r ≡ Refused n → By (allStates G cut) (Refused n)
-      far-stop n d = stop-by _ goes n (subst (By _) d (step (emit-now k) found.token found.at))
+      pub far_stop : (n : ℕ) → r ≡ Refused n → By (all_states G cut) (Refused n)
+      far_stop n d = stop_by _ goes n (subst (By _) d (step (emit_now k) found.token found.at))
 
-    pub far-end : g.states ≤ s → EndedBy g m' qs' G.done (allStates G cut) (On x')
-    unfolding emitFrom
-    far-end l =
+    pub far_end : g.states ≤ s → EndedBy g m' qs' G.done (all_states G cut) (On x')
+    unfolding emit_from
+    far_end l =
         let none_left : drop s G.done ≡ [] = drop_of_length-le G.done {i = s} (let z = F.at.stood.rep.finished.size in omega arith) in
-        subst (λ (u : Outcome ModelWork). EndedBy g m' qs' G.done u (On x')) (sym (F.rest ∙ ap (λ (ts : Table). emitFrom G.H (passOf pass T.arcs.loglikes) cut s ts F.w') none_left)) (endedOn F.p' F.at)
+        subst (λ (u : Outcome ModelWork). EndedBy g m' qs' G.done u (On x')) (sym (F.rest ∙ ap (λ (ts : Table). emit_from G.H (pass_of pass T.arcs.loglikes) cut s ts F.w') none_left)) (ended_on F.p' F.at)
 
-  pub far-start : (s : ℕ) → NextActive m.tokens (1 - g.side) 0 g.states s → SoFar m qs x s
-  far-start s N = skips (record { p' = G.p; w' = G.w; at = G.at; rest = refl }) s N
+  pub far_start : (s : ℕ) → NextActive m.tokens (1 - g.side) 0 g.states s → SoFar m qs x s
+  far_start s N = skips (record { p' = G.p; w' = G.w; at = G.at; rest = refl }) s N

@@ -3,9 +3,9 @@ ghost use Rattle.std.specs.Prelude.{◌≡◌, ◌-◌, ◌≤◌, ◌<◌, leng
 ghost use Rattle.model.specs.Basics.{∞};
 ghost use Rattle.stores.specs.Rep.{lent};
 ghost use Rattle.arcs.specs.State.{tables};
-ghost use Rattle.emitting.specs.Look.{LookAsks, lookStep, lookFrom, outcomeOf};
+ghost use Rattle.emitting.specs.Look.{LookAsks, look_step, look_from, outcome_of};
 ghost use Rattle.emitting.specs.Emit.{EmitGiven, ActiveAt, EmitStateIs, EmitStatesIs};
-ghost use Rattle.emitting.specs.Whole.{LookGiven, LooksIs, offsetIn, PassGiven, EmittingIs};
+ghost use Rattle.emitting.specs.Whole.{LookGiven, LooksIs, offset_in, PassGiven, EmittingIs};
 
 use arcs::{Pass, Passed, Work};
 use arrivals::Setting;
@@ -32,7 +32,7 @@ fn look_at(
     next: f32,
 ) -> Looked
     requires { LookAsks ilabels.now weights.now tid2pdf.now loglikes.now × (i < length ilabels.now) }
-    ensures { outcomeOf result ≡ lookStep ilabels.now weights.now tid2pdf.now loglikes.now offset adaptive cost i next }
+    ensures { outcome_of result ≡ look_step ilabels.now weights.now tid2pdf.now loglikes.now offset adaptive cost i next }
 {
     let pass = Pass::Emitting(offset, adaptive);
     if !arcs::takes(ilabels, pass, i) {
@@ -56,7 +56,7 @@ fn first_look(
     cost: f32,
 ) -> Looked
     requires { LookAsks ilabels.now weights.now tid2pdf.now loglikes.now }
-    ensures { outcomeOf result ≡ lookFrom ilabels.now weights.now tid2pdf.now loglikes.now offset adaptive cost (length ilabels.now) 0 ∞ }
+    ensures { outcome_of result ≡ look_from ilabels.now weights.now tid2pdf.now loglikes.now offset adaptive cost (length ilabels.now) 0 ∞ }
 {
     let mut next = real32::infinity();
     for i in 0..ilabels.len() {
@@ -187,7 +187,7 @@ fn emit_states(
 
 // The cost offset: minus the best cost, 0 where there is no token.
 fn offset_of(states: u32, cut: Cutoff) -> f32
-    ensures { result ≡ offsetIn states cut }
+    ensures { result ≡ offset_in states cut }
 {
     if states <= cut.best { 0.0 } else { -cut.least }
 }

@@ -6,32 +6,32 @@ use Rattle.model.specs.Basics.{0f}
 use Rattle.entries.specs.declared.Entry.{Entry}
 
 -- the start
-abbrev pub noEntry : Entry
-noEntry = record { hash = 0; len = 0; cost = 0f; graph = 0f; next = 0; join = 0 }
+abbrev pub no_entry : Entry
+no_entry = record { hash = 0; len = 0; cost = 0f; graph = 0f; next = 0; join = 0 }
 
 -- in the place i, which has the number i + 1
-abbrev pub entryIn : (hs ns : List ℕ) → List Float → (i : ℕ) → Entry
-entryIn hs ns xs i =
+abbrev pub entry_in : (hs ns : List ℕ) → List Float → (i : ℕ) → Entry
+entry_in hs ns xs i =
     record { hash = slice_index hs i; len = slice_index ns (i * 3); cost = slice_index_or xs (i * 2) nan; graph = slice_index_or xs (i * 2 + 1) nan; next = slice_index ns (i * 3 + 1); join = slice_index ns (i * 3 + 2) }
 
 unfoldable pub entry_at : (hs ns : List ℕ) → List Float → (e : ℕ) → Entry
-entry_at hs ns xs zero = noEntry
-entry_at hs ns xs (suc i) = entryIn hs ns xs i
+entry_at hs ns xs zero = no_entry
+entry_at hs ns xs (suc i) = entry_in hs ns xs i
 
 -- n entries from number `from` on
 abbrev pub entries : (hs ns : List ℕ) → List Float → (from n : ℕ) → List Entry
 entries hs ns xs from n = map (entry_at hs ns xs) (range from n)
 
 -- word lists count as equal here where hash and number agree
-abbrev pub sameKey : Entry → Entry → Bool
-sameKey a b = a.hash == b.hash && a.len == b.len
+abbrev pub same_key : Entry → Entry → Bool
+same_key a b = a.hash == b.hash && a.len == b.len
 
 -- entry e has b's words; some entry from `from` up to `to` has: the sums do not count
 abbrev pub SameKeyIs : (hs ns : List ℕ) → (e : ℕ) → Entry → Bool → Type 0
-SameKeyIs hs ns e b r = (xs : List Float) → r ≡ sameKey b (entry_at hs ns xs e)
+SameKeyIs hs ns e b r = (xs : List Float) → r ≡ same_key b (entry_at hs ns xs e)
 
 abbrev pub HasKeyIs : (hs ns : List ℕ) → (from to : ℕ) → Entry → Bool → Type 0
-HasKeyIs hs ns from to b r = (xs : List Float) → r ≡ any (sameKey b) (entries hs ns xs from (to - from))
+HasKeyIs hs ns from to b r = (xs : List Float) → r ≡ any (same_key b) (entries hs ns xs from (to - from))
 
 -- places for n entries
 pub record Room (hs ns : List ℕ) (xs : List Float) (n : ℕ) : Type 0 where
@@ -41,11 +41,11 @@ pub record Room (hs ns : List ℕ) (xs : List Float) (n : ℕ) : Type 0 where
 
 -- place i is b's; every other is as it was
 pub record EntryPut (hs ns : List ℕ) (xs : List Float) (hs' ns' : List ℕ) (xs' : List Float) (i : ℕ) (b : Entry) : Type 0 where
-  pub is : entryIn hs' ns' xs' i ≡ b
-  pub others : (j : ℕ) → (j ≢ i) → entryIn hs' ns' xs' j ≡ entryIn hs ns xs j
+  pub is : entry_in hs' ns' xs' i ≡ b
+  pub others : (j : ℕ) → (j ≢ i) → entry_in hs' ns' xs' j ≡ entry_in hs ns xs j
 
 -- its words are there already; the places are full; or it is put
 pub data PutNew (hs ns : List ℕ) (xs : List Float) (hs' ns' : List ℕ) (xs' : List Float) (from to places : ℕ) (b : Entry) : ℕ → Type 0 where
-  wasThere : any (sameKey b) (entries hs ns xs from (to - from)) ≡ true → hs' ≡ hs → ns' ≡ ns → xs' ≡ xs → PutNew hs ns xs hs' ns' xs' from to places b to
-  wasFull : any (sameKey b) (entries hs ns xs from (to - from)) ≡ false → places < to → hs' ≡ hs → ns' ≡ ns → xs' ≡ xs → PutNew hs ns xs hs' ns' xs' from to places b 0
-  wasPut : any (sameKey b) (entries hs ns xs from (to - from)) ≡ false → to ≤ places → EntryPut hs ns xs hs' ns' xs' (to - 1) b → PutNew hs ns xs hs' ns' xs' from to places b (to + 1)
+  was_there_lem : any (same_key b) (entries hs ns xs from (to - from)) ≡ true → hs' ≡ hs → ns' ≡ ns → xs' ≡ xs → PutNew hs ns xs hs' ns' xs' from to places b to
+  was_full : any (same_key b) (entries hs ns xs from (to - from)) ≡ false → places < to → hs' ≡ hs → ns' ≡ ns → xs' ≡ xs → PutNew hs ns xs hs' ns' xs' from to places b 0
+  was_put : any (same_key b) (entries hs ns xs from (to - from)) ≡ false → to ≤ places → EntryPut hs ns xs hs' ns' xs' (to - 1) b → PutNew hs ns xs hs' ns' xs' from to places b (to + 1)

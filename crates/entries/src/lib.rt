@@ -3,7 +3,7 @@
 // (0 for none); `sums` has two: what it costs over the path that it leaves, and its graph sum likewise.
 ghost use Rattle.std.specs.Prelude.{◌≡◌, ◌+◌, ◌-◌, ◌*◌, ◌<◌, ◌≤◌, length, if◌then◌else◌};
 ghost use Rattle.entries.specs.Entries.{entry_at, SameKeyIs, HasKeyIs, Room, EntryPut, PutNew};
-ghost use Rattle.entries.specs.Ways.{byWay, WayAsks, wayEntries, WithinIs, NextAsks, PickAsks, ownNext, picked, FillAsks, FillIs};
+ghost use Rattle.entries.specs.Ways.{by_way, WayAsks, way_entries, WithinIs, NextAsks, PickAsks, own_next, picked, FillAsks, FillIs};
 
 use wrapping::wrapping_mul;
 
@@ -73,7 +73,7 @@ fn put_entry(hashes: &mut [u64], nexts: &mut [u32], sums: &mut [f32], e: u32, b:
 // The i-th path of a way.
 fn by_way(hashes: &[u64], nexts: &[u32], sums: &[f32], w: Way, i: u32) -> Entry
     requires { (WayAsks hashes.now nexts.now sums.now w) × (i < w.count) }
-    ensures { result ≡ byWay hashes.now nexts.now sums.now w (w.first + i) }
+    ensures { result ≡ by_way hashes.now nexts.now sums.now w (w.first + i) }
 {
     let e = w.first + i;
     let b = entry_at(hashes, nexts, sums, e);
@@ -90,7 +90,7 @@ fn by_way(hashes: &[u64], nexts: &[u32], sums: &[f32], w: Way, i: u32) -> Entry
 // How many of a way's paths, from the first on, the margin does not cut.
 fn within(hashes: &[u64], nexts: &[u32], sums: &[f32], w: Way, margin: f32) -> u32
     requires { WayAsks hashes.now nexts.now sums.now w }
-    ensures { WithinIs (wayEntries hashes.now nexts.now sums.now w) margin result }
+    ensures { WithinIs (way_entries hashes.now nexts.now sums.now w) margin result }
 {
     for i in 0..w.count {
         let b = by_way(hashes, nexts, sums, w, i);
@@ -138,7 +138,7 @@ fn own_next(
     m: u32,
 ) -> bool
     requires { NextAsks hashes.now nexts.now sums.now own kept i n j m }
-    ensures { result ≡ ownNext hashes.now nexts.now sums.now own kept i n j m }
+    ensures { result ≡ own_next hashes.now nexts.now sums.now own kept i n j m }
 {
     if i == n {
         return false;

@@ -9,14 +9,14 @@ use native.Mathlib.Omega.{arith}
 use Rattle.model.specs.Basics.{first_of, Refusal as Wrong}
 use Rattle.refusals.specs.declared.Refusal.{Refusal}
 use Rattle.fst.specs.declared.Found.TheVariants.{Nothing, Fault}
-use Rattle.fst.specs.Answer.{foundOf, refusalOf}
+use Rattle.fst.specs.Answer.{found_of, refusal_of}
 
 module _ {A B : Type 0} (whole : B) (ahead : List A → B) (xs : List A) (i : ℕ) (so_far : whole ≡ ahead (drop i xs)) where
-  pub at-end : i ≡ length xs → whole ≡ ahead []
-  at-end h = so_far ∙ ap ahead (ap (λ (k : ℕ). drop k xs) h ∙ drop-length xs)
+  pub at_end : i ≡ length xs → whole ≡ ahead []
+  at_end h = so_far ∙ ap ahead (ap (λ (k : ℕ). drop k xs) h ∙ drop-length xs)
 
-  pub in-turn : (d : A) → i < length xs → whole ≡ ahead (get_or xs i d ∷ drop (suc i) xs)
-  in-turn d h = so_far ∙ ap ahead (drop-cons xs i d h)
+  pub in_turn : (d : A) → i < length xs → whole ≡ ahead (get_or xs i d ∷ drop (suc i) xs)
+  in_turn d h = so_far ∙ ap ahead (drop-cons xs i d h)
 
 module _ {A : Type 0} where
   only : (o : Option A) → first_of (o ∷ []) ≡ o
@@ -31,10 +31,10 @@ module _ {A : Type 0} where
 
 -- ---- what the code finds is what the definition finds
 
-pub no-fault : (o : Option Wrong) → Nothing ≡ foundOf o → o ≡ none
-no-fault none e = refl
-no-fault (some x) e = let z : ◌≡◌ {A = ℕ} 0 1 = cc in absurd (omega arith)
+pub no_fault : (o : Option Wrong) → Nothing ≡ found_of o → o ≡ none
+no_fault none e = refl
+no_fault (some x) e = let z : ◌≡◌ {A = ℕ} 0 1 = cc in absurd (omega arith)
 
-pub the-fault : (o : Option Wrong) (r : Refusal) → Fault r ≡ foundOf o → (x : Wrong) × (o ≡ some x) × (r ≡ refusalOf x)
-the-fault none r e = let z : ◌≡◌ {A = ℕ} 0 1 = cc in absurd (omega arith)
-the-fault (some x) r e = (x, refl, cc)
+pub the_fault : (o : Option Wrong) (r : Refusal) → Fault r ≡ found_of o → (x : Wrong) × (o ≡ some x) × (r ≡ refusal_of x)
+the_fault none r e = let z : ◌≡◌ {A = ℕ} 0 1 = cc in absurd (omega arith)
+the_fault (some x) r e = (x, refl, cc)

@@ -3,9 +3,9 @@
 ghost use Rattle.std.specs.Prelude.{◌≡◌, ◌+◌, ◌≤◌, ◌<◌, true, not, [], length, get_or};
 ghost use Rattle.lists.specs.Lists.{any};
 ghost use Rattle.model.specs.Basics.{0f, nonzero, nowhere};
-ghost use Rattle.model.specs.Graph.{Graph as ModelGraph, runsFrom0, shapeWrong, startWrong, weightWrong, finalWrong, checkArc, checkStates, checkFinals, isFinal};
+ghost use Rattle.model.specs.Graph.{Graph as ModelGraph, runs_from0, shape_wrong, start_wrong, weight_wrong, final_wrong, check_arc, check_states, check_finals, is_final};
 ghost use Rattle.fst.specs.Epsilons.{EpsFilled};
-ghost use Rattle.fst.specs.Answer.{graph_of, tables_of, arcOf, number_of, checkLabel, withoutWords, checkPart, Shaped, foundOf, buildOf};
+ghost use Rattle.fst.specs.Answer.{graph_of, tables_of, arc_of, number_of, check_label, without_words, check_part, Shaped, found_of, build_of};
 
 use refusals::{Place, Refusal};
 
@@ -37,7 +37,7 @@ enum Found {
 
 // Whether the offsets run from 0 to the arc count without falling.
 fn runs(offsets: &[u32], arcs: usize) -> bool
-    ensures { result ≡ runsFrom0 arcs offsets.now }
+    ensures { result ≡ runs_from0 arcs offsets.now }
 {
     if offsets.len() == 0 {
         return false;
@@ -75,7 +75,7 @@ fn shape_wrong(
     tid2pdf: &[i32],
     tid2phone: &[i32],
 ) -> bool
-    ensures { result ≡ shapeWrong (graph_of offsets.now ilabels.now olabels.now weights.now nextstates.now finals.now tid2pdf.now tid2phone.now 0 0) }
+    ensures { result ≡ shape_wrong (graph_of offsets.now ilabels.now olabels.now weights.now nextstates.now finals.now tid2pdf.now tid2phone.now 0 0) }
 {
     let states = finals.len();
     let arcs = ilabels.len();
@@ -108,7 +108,7 @@ fn shape_wrong(
 
 // 3 and 4: the lower number that refuses an input label; 0 where neither does.
 fn check_label(ilabel: i32, tid2pdf: &[i32], tid2phone: &[i32], pdfs: u32) -> u32
-    ensures { result ≡ number_of (checkLabel (tables_of [] tid2pdf.now tid2phone.now pdfs) (arcOf ilabel 0f 0)) }
+    ensures { result ≡ number_of (check_label (tables_of [] tid2pdf.now tid2phone.now pdfs) (arc_of ilabel 0f 0)) }
 {
     if ilabel < 0 {
         return refusals::BAD_LABEL;
@@ -138,7 +138,7 @@ fn check_label(ilabel: i32, tid2pdf: &[i32], tid2phone: &[i32], pdfs: u32) -> u3
 
 // 5, of an arc: not tame, or an epsilon arc below zero.
 fn weight_wrong(ilabel: i32, weight: f32) -> bool
-    ensures { result ≡ weightWrong (arcOf ilabel weight 0) }
+    ensures { result ≡ weight_wrong (arc_of ilabel weight 0) }
 {
     if !real32::is_tame(weight) {
         return true;
@@ -159,7 +159,7 @@ fn check_arc(
     tid2phone: &[i32],
     pdfs: u32,
 ) -> u32
-    ensures { result ≡ number_of (checkArc (tables_of finals.now tid2pdf.now tid2phone.now pdfs) nowhere (arcOf ilabel weight nextstate)) }
+    ensures { result ≡ number_of (check_arc (tables_of finals.now tid2pdf.now tid2phone.now pdfs) nowhere (arc_of ilabel weight nextstate)) }
 {
     if finals.len() <= nextstate as usize {
         return refusals::NO_SUCH_STATE;
@@ -186,7 +186,7 @@ fn check_arcs(
     pdfs: u32,
 ) -> Found
     requires { (length weights.now ≡ length ilabels.now) × (length nextstates.now ≡ length ilabels.now) × (length ilabels.now ≤ 1_048_576) }
-    ensures { result ≡ foundOf (checkPart (withoutWords [] ilabels.now weights.now nextstates.now finals.now tid2pdf.now tid2phone.now pdfs) state) }
+    ensures { result ≡ found_of (check_part (without_words [] ilabels.now weights.now nextstates.now finals.now tid2pdf.now tid2phone.now pdfs) state) }
 {
     for i in 0..ilabels.len() {
         let number = check_arc(
@@ -220,7 +220,7 @@ fn check_states(
     pdfs: u32,
 ) -> Found
     requires { Shaped offsets.now ilabels.now weights.now nextstates.now finals.now }
-    ensures { result ≡ foundOf (checkStates (withoutWords offsets.now ilabels.now weights.now nextstates.now finals.now tid2pdf.now tid2phone.now pdfs) 0 offsets.now) }
+    ensures { result ≡ found_of (check_states (without_words offsets.now ilabels.now weights.now nextstates.now finals.now tid2pdf.now tid2phone.now pdfs) 0 offsets.now) }
 {
     for s in 0..finals.len() {
         let a = first_arc(offsets, s);
@@ -244,7 +244,7 @@ fn check_states(
 
 // 5, of a final weight: neither tame nor +∞.
 fn final_wrong(weight: f32) -> bool
-    ensures { result ≡ finalWrong weight }
+    ensures { result ≡ final_wrong weight }
 {
     if real32::is_tame(weight) {
         return false;
@@ -258,7 +258,7 @@ fn final_wrong(weight: f32) -> bool
 // The final weights, state by state.
 fn check_finals(finals: &[f32]) -> Found
     requires { length finals.now ≤ 65_535 }
-    ensures { result ≡ foundOf (checkFinals 0 finals.now) }
+    ensures { result ≡ found_of (check_finals 0 finals.now) }
 {
     for s in 0..finals.len() {
         if final_wrong(finals[s]) {
@@ -273,7 +273,7 @@ fn check_finals(finals: &[f32]) -> Found
 
 // 2, of the start: neither a state nor NO_STATE.
 fn start_wrong(start: u32, finals: &[f32]) -> bool
-    ensures { result ≡ startWrong (graph_of [] [] [] [] [] finals.now [] [] start 0) }
+    ensures { result ≡ start_wrong (graph_of [] [] [] [] [] finals.now [] [] start 0) }
 {
     if (start as usize) < finals.len() {
         return false;
@@ -304,7 +304,7 @@ pub fn build(
     start: u32,
     pdfs: u32,
 ) -> Built
-    ensures { result ≡ buildOf (graph_of offsets.now ilabels.now olabels.now weights.now nextstates.now finals.now tid2pdf.now tid2phone.now start pdfs) }
+    ensures { result ≡ build_of (graph_of offsets.now ilabels.now olabels.now weights.now nextstates.now finals.now tid2pdf.now tid2phone.now start pdfs) }
 {
     if shape_wrong(
         offsets, ilabels, olabels, weights, nextstates, finals, tid2pdf, tid2phone,
@@ -334,7 +334,7 @@ pub fn build(
 
 // Whether a state is final, in any graph with these final weights: its weight is finite. What is no state is not final.
 pub fn is_final(finals: &[f32], state: u32) -> bool
-    ensures { (g : ModelGraph) → g.finals ≡ finals.now → result ≡ isFinal g state }
+    ensures { (g : ModelGraph) → g.finals ≡ finals.now → result ≡ is_final g state }
 {
     let s = state as usize;
     if finals.len() <= s {
@@ -357,7 +357,7 @@ fn has_eps(ilabels: &[i32]) -> bool
 
 // Which states have epsilon arcs: 1 or 0 for each. What stands behind the states is unchanged. The offsets are those of an accepted shape.
 pub fn fill_eps(offsets: &[u32], ilabels: &[i32], table: &mut [u8])
-    requires { (runsFrom0 (length ilabels.now) offsets.now ≡ true) × (length offsets.now ≤ length table.old + 1) }
+    requires { (runs_from0 (length ilabels.now) offsets.now ≡ true) × (length offsets.now ≤ length table.old + 1) }
     ensures { EpsFilled offsets.now ilabels.now table.old table.new }
 {
     for s in 0..offsets.len() - 1 {

@@ -2,25 +2,25 @@
 // that call, and its answer told by a struct or a number of `c_answers`. `python3 tools/declare.py` writes what C and Rust see of this file, comments included, into
 // `include/hirqazhom.h` and `rust/src/ffi.rs`.
 ghost use Rattle.std.specs.Prelude.{◌≡◌, ◌-◌, ◌/◌, [], ◌∷◌, length};
-ghost use Rattle.model.specs.Search.{firstReading};
+ghost use Rattle.model.specs.Search.{first_reading};
 ghost use Rattle.stores.specs.Rep.{lent};
-ghost use Rattle.nonemitting.specs.Expand.{graphTables};
+ghost use Rattle.nonemitting.specs.Expand.{graph_tables};
 ghost use Rattle.traceback.specs.Right.{parts};
 ghost use Rattle.readings.specs.Paths.{outputs};
 ghost use Rattle.readings.specs.Right.{scratch};
-ghost use Rattle.places.specs.Places.{entryPlaces, keptPlaces};
+ghost use Rattle.places.specs.Places.{entry_places, kept_places};
 ghost use Rattle.reading_list.specs.Outputs.{outputs as listOutputs};
 ghost use Rattle.reading_list.specs.Scratch.{scratch as listScratch};
-ghost use Rattle.fst.specs.Answer.{graph_of, buildOf};
+ghost use Rattle.fst.specs.Answer.{graph_of, build_of};
 ghost use Rattle.silence_weighting.specs.Answers.{NewRight, ActiveRight, TracebackRight, DeltasRight, TrailingRight};
-ghost use Rattle.reading_search.specs.Found.{foundOf, listing};
+ghost use Rattle.reading_search.specs.Found.{found_of, listing};
 ghost use Rattle.shuffle.specs.Block.{shuffled, unshuffled, Rearranged};
-ghost use Rattle.courses.specs.Course.{courseAt};
+ghost use Rattle.courses.specs.Course.{course_at};
 ghost use Rattle.refusal_lines.specs.Answer.{WrittenLine, ReadLine};
 ghost use Rattle.decoder.specs.Represents.{Left};
-ghost use Rattle.decoder.specs.Contracts.{StartIs, FrameIs, keepOf, FitIs, FrameLeft, ActiveLeft, FinalsLeft, RelativeLeft, AlternativesLeft, ReadingsLeft, ActiveIs, RelativeCostIs, BestPathIs, AlternativesIs, ReadingsIs};
-ghost use Rattle.decoder.specs.Fit.{lengthsOf};
-ghost use Rattle.c_answers.specs.Forms.{FormOf, answer_of, fittedAnswer, builtVerdict, pathOf, listedCount, readingCount, silenceOf, weighedOf, trailingCount, foundIndex, shuffledNumber, courseNumbers, refusalTold, lineCount, lineVerdict};
+ghost use Rattle.decoder.specs.Contracts.{StartIs, FrameIs, keep_of, FitIs, FrameLeft, ActiveLeft, FinalsLeft, RelativeLeft, AlternativesLeft, ReadingsLeft, ActiveIs, RelativeCostIs, BestPathIs, AlternativesIs, ReadingsIs};
+ghost use Rattle.decoder.specs.Fit.{lengths_of};
+ghost use Rattle.c_answers.specs.Forms.{FormOf, answer_of, fitted_answer, built_verdict, path_of, listed_count, reading_count, silence_of, weighed_of, trailing_count, found_index, shuffled_number, course_numbers, refusal_told, line_count, line_verdict};
 
 use c_answers::{
     Answer, Count, CourseAt, Fitting, Index, Path, Silence, Verdict, answer_of, built_verdict,
@@ -47,7 +47,7 @@ pub extern "C" fn hirqazhom_build(
     start: u32,
     pdfs: u32,
 ) -> Verdict
-    ensures { result ≡ builtVerdict (buildOf (graph_of offsets.now ilabels.now olabels.now weights.now nextstates.now finals.now tid2pdf.now tid2phone.now start pdfs)) }
+    ensures { result ≡ built_verdict (build_of (graph_of offsets.now ilabels.now olabels.now weights.now nextstates.now finals.now tid2pdf.now tid2phone.now start pdfs)) }
 {
     built_verdict(fst::build(
         offsets, ilabels, olabels, weights, nextstates, finals, tid2pdf, tid2phone, start, pdfs,
@@ -91,7 +91,7 @@ pub extern "C" fn hirqazhom_fit(
     pdfs: u32,
     config: Config,
 ) -> Fitting
-    ensures { FormOf (FitIs (graph_of offsets.now ilabels.now olabels.now weights.now nextstates.now finals.now tid2pdf.now tid2phone.now start pdfs) (graphTables offsets.now ilabels.now olabels.now weights.now nextstates.now tid2pdf.now tid2phone.now) (lent tokens.old sums.old records.old labels.old gaps.old) (lent tokens.new sums.new records.new labels.new gaps.new) (lengthsOf (lent tokens.old sums.old records.old labels.old gaps.old) eps.old scratch.now keys.now places.now own.now heads.now list.now lists.now route.now history_keys.now history_skips.now kept_hashes.now kept_links.now kept_sums.now order.now) queue.old queue.new eps.old eps.new config) fittedAnswer result }
+    ensures { FormOf (FitIs (graph_of offsets.now ilabels.now olabels.now weights.now nextstates.now finals.now tid2pdf.now tid2phone.now start pdfs) (graph_tables offsets.now ilabels.now olabels.now weights.now nextstates.now tid2pdf.now tid2phone.now) (lent tokens.old sums.old records.old labels.old gaps.old) (lent tokens.new sums.new records.new labels.new gaps.new) (lengths_of (lent tokens.old sums.old records.old labels.old gaps.old) eps.old scratch.now keys.now places.now own.now heads.now list.now lists.now route.now history_keys.now history_skips.now kept_hashes.now kept_links.now kept_sums.now order.now) queue.old queue.new eps.old eps.new config) fitted_answer result }
 {
     fitted_answer(decoder::fit(
         tokens,
@@ -148,8 +148,8 @@ pub extern "C" fn hirqazhom_start(
     tid2phone: &[i32],
     decoder: Decoder,
 ) -> Answer
-    requires { Left (graphTables offsets.now ilabels.now olabels.now weights.now nextstates.now tid2pdf.now tid2phone.now) (lent tokens.old sums.old records.old labels.old gaps.old) eps.now (length queue.old) decoder }
-    ensures { FormOf (StartIs (graphTables offsets.now ilabels.now olabels.now weights.now nextstates.now tid2pdf.now tid2phone.now) (lent tokens.old sums.old records.old labels.old gaps.old) (lent tokens.new sums.new records.new labels.new gaps.new) queue.old queue.new eps.now decoder) answer_of result }
+    requires { Left (graph_tables offsets.now ilabels.now olabels.now weights.now nextstates.now tid2pdf.now tid2phone.now) (lent tokens.old sums.old records.old labels.old gaps.old) eps.now (length queue.old) decoder }
+    ensures { FormOf (StartIs (graph_tables offsets.now ilabels.now olabels.now weights.now nextstates.now tid2pdf.now tid2phone.now) (lent tokens.old sums.old records.old labels.old gaps.old) (lent tokens.new sums.new records.new labels.new gaps.new) queue.old queue.new eps.now decoder) answer_of result }
 {
     answer_of(decoder::start(
         tokens, sums, records, labels, gaps, queue, eps, offsets, ilabels, olabels, weights,
@@ -178,8 +178,8 @@ pub extern "C" fn hirqazhom_frame(
     loglikes: &[f32],
     decoder: Decoder,
 ) -> Answer
-    requires { FrameLeft (graphTables offsets.now ilabels.now olabels.now weights.now nextstates.now tid2pdf.now tid2phone.now) (lent tokens.old sums.old records.old labels.old gaps.old) eps.now (length queue.old) (length scratch.old) decoder }
-    ensures { FormOf (FrameIs (graphTables offsets.now ilabels.now olabels.now weights.now nextstates.now tid2pdf.now tid2phone.now) (lent tokens.old sums.old records.old labels.old gaps.old) (lent tokens.new sums.new records.new labels.new gaps.new) queue.old queue.new scratch.old scratch.new eps.now loglikes.now decoder) answer_of result }
+    requires { FrameLeft (graph_tables offsets.now ilabels.now olabels.now weights.now nextstates.now tid2pdf.now tid2phone.now) (lent tokens.old sums.old records.old labels.old gaps.old) eps.now (length queue.old) (length scratch.old) decoder }
+    ensures { FormOf (FrameIs (graph_tables offsets.now ilabels.now olabels.now weights.now nextstates.now tid2pdf.now tid2phone.now) (lent tokens.old sums.old records.old labels.old gaps.old) (lent tokens.new sums.new records.new labels.new gaps.new) queue.old queue.new scratch.old scratch.new eps.now loglikes.now decoder) answer_of result }
 {
     answer_of(decoder::frame(
         tokens, sums, records, labels, gaps, queue, scratch, eps, offsets, ilabels, olabels,
@@ -190,7 +190,7 @@ pub extern "C" fn hirqazhom_frame(
 // The keep margin, or none. Refused by 6: the same decoder.
 #[unsafe(no_mangle)]
 pub extern "C" fn hirqazhom_set_keep(decoder: Decoder, keeps: bool, margin: f32) -> Answer
-    ensures { result ≡ answer_of (keepOf decoder keeps margin) }
+    ensures { result ≡ answer_of (keep_of decoder keeps margin) }
 {
     answer_of(decoder::set_keep(decoder, keeps, margin))
 }
@@ -241,7 +241,7 @@ pub extern "C" fn hirqazhom_best_path(
     segments: &mut [u32],
 ) -> Path
     requires { FinalsLeft tokens.now sums.now records.now labels.now finals.now decoder }
-    ensures { FormOf (BestPathIs tokens.now sums.now records.now labels.now finals.now decoder use_final (parts words.old frames.old segments.old) (parts words.new frames.new segments.new)) pathOf result }
+    ensures { FormOf (BestPathIs tokens.now sums.now records.now labels.now finals.now decoder use_final (parts words.old frames.old segments.old) (parts words.new frames.new segments.new)) path_of result }
 {
     path_of(decoder_reads::best_path(
         tokens, sums, records, labels, finals, decoder, use_final, words, frames, segments,
@@ -272,7 +272,7 @@ pub extern "C" fn hirqazhom_alternatives(
     costs: &mut [f32],
 ) -> Count
     requires { AlternativesLeft tokens.now sums.now records.now labels.now finals.now (length keys.old ∷ length places.old ∷ length own.old ∷ []) (length history_keys.old / 2 ∷ length history_skips.old / 2 ∷ []) decoder }
-    ensures { FormOf (AlternativesIs tokens.now sums.now records.now labels.now finals.now decoder use_final max (scratch keys.old places.old own.old history_keys.old history_skips.old) (scratch keys.new places.new own.new history_keys.new history_skips.new) (outputs words.old frames.old segments.old ends.old costs.old) (outputs words.new frames.new segments.new ends.new costs.new)) listedCount result }
+    ensures { FormOf (AlternativesIs tokens.now sums.now records.now labels.now finals.now decoder use_final max (scratch keys.old places.old own.old history_keys.old history_skips.old) (scratch keys.new places.new own.new history_keys.new history_skips.new) (outputs words.old frames.old segments.old ends.old costs.old) (outputs words.new frames.new segments.new ends.new costs.new)) listed_count result }
 {
     listed_count(decoder_reads::alternatives(
         tokens,
@@ -332,8 +332,8 @@ pub extern "C" fn hirqazhom_reading_list(
     numbers: &mut [u64],
     costs: &mut [f32],
 ) -> Count
-    requires { ReadingsLeft tokens.now sums.now records.now labels.now gaps.now finals.now (length keys.old ∷ length places.old ∷ length own.old ∷ length heads.old ∷ length list.old ∷ []) (length lists.old / 2 ∷ length route.old ∷ length history_keys.old / 2 ∷ length history_skips.old / 2 ∷ []) (keptPlaces (length kept_hashes.old) (length kept_links.old) (length kept_sums.old)) (length keys.old ∷ length order.old ∷ (length list.old - decoder.graph.states) ∷ []) decoder }
-    ensures { FormOf (ReadingsIs tokens.now sums.now records.now labels.now gaps.now finals.now decoder use_final listed max (entryPlaces (length entry_hashes.old) (length entry_nexts.old) (length entry_sums.old)) (keptPlaces (length kept_hashes.old) (length kept_links.old) (length kept_sums.old)) (listScratch keys.old places.old own.old heads.old list.old lists.old route.old history_keys.old history_skips.old entry_hashes.old entry_nexts.old entry_sums.old kept_hashes.old kept_links.old kept_sums.old order.old) (listScratch keys.new places.new own.new heads.new list.new lists.new route.new history_keys.new history_skips.new entry_hashes.new entry_nexts.new entry_sums.new kept_hashes.new kept_links.new kept_sums.new order.new) (listOutputs words.old frames.old segments.old numbers.old costs.old) (listOutputs words.new frames.new segments.new numbers.new costs.new)) readingCount result }
+    requires { ReadingsLeft tokens.now sums.now records.now labels.now gaps.now finals.now (length keys.old ∷ length places.old ∷ length own.old ∷ length heads.old ∷ length list.old ∷ []) (length lists.old / 2 ∷ length route.old ∷ length history_keys.old / 2 ∷ length history_skips.old / 2 ∷ []) (kept_places (length kept_hashes.old) (length kept_links.old) (length kept_sums.old)) (length keys.old ∷ length order.old ∷ (length list.old - decoder.graph.states) ∷ []) decoder }
+    ensures { FormOf (ReadingsIs tokens.now sums.now records.now labels.now gaps.now finals.now decoder use_final listed max (entry_places (length entry_hashes.old) (length entry_nexts.old) (length entry_sums.old)) (kept_places (length kept_hashes.old) (length kept_links.old) (length kept_sums.old)) (listScratch keys.old places.old own.old heads.old list.old lists.old route.old history_keys.old history_skips.old entry_hashes.old entry_nexts.old entry_sums.old kept_hashes.old kept_links.old kept_sums.old order.old) (listScratch keys.new places.new own.new heads.new list.new lists.new route.new history_keys.new history_skips.new entry_hashes.new entry_nexts.new entry_sums.new kept_hashes.new kept_links.new kept_sums.new order.new) (listOutputs words.old frames.old segments.old numbers.old costs.old) (listOutputs words.new frames.new segments.new numbers.new costs.new)) reading_count result }
 {
     reading_count(decoder_readings::reading_list(
         tokens,
@@ -375,7 +375,7 @@ pub extern "C" fn hirqazhom_reading_list(
 // A silence state with no frames. Refused by 7.
 #[unsafe(no_mangle)]
 pub extern "C" fn hirqazhom_silence_new(weight: f32, subsampling: u32) -> Silence
-    ensures { FormOf (NewRight weight subsampling) silenceOf result }
+    ensures { FormOf (NewRight weight subsampling) silence_of result }
 {
     silence_of(SilenceWeighting::new(weight, subsampling))
 }
@@ -400,7 +400,7 @@ pub extern "C" fn hirqazhom_silence_traceback(
     status: &mut [u32],
     weights: &mut [f32],
 ) -> Silence
-    ensures { FormOf (λ n. TracebackRight state silence_phones.now phones.now starts.now ends.now num_frames_decoded status.old weights.old n status.new weights.new) silenceOf result }
+    ensures { FormOf (λ n. TracebackRight state silence_phones.now phones.now starts.now ends.now num_frames_decoded status.old weights.old n status.new weights.new) silence_of result }
 {
     silence_of(state.compute_current_traceback(
         silence_phones,
@@ -424,7 +424,7 @@ pub extern "C" fn hirqazhom_silence_deltas(
     frames: &mut [u64],
     deltas: &mut [f32],
 ) -> Silence
-    ensures { FormOf (λ w. DeltasRight state num_frames_ready first_decoder_frame (record { status = status.entry.now; weights = weights.old; frames = frames.old; deltas = deltas.old }) w (record { status = status.exit.now; weights = weights.new; frames = frames.new; deltas = deltas.new })) weighedOf result }
+    ensures { FormOf (λ w. DeltasRight state num_frames_ready first_decoder_frame (record { status = status.entry.now; weights = weights.old; frames = frames.old; deltas = deltas.old }) w (record { status = status.exit.now; weights = weights.new; frames = frames.new; deltas = deltas.new })) weighed_of result }
 {
     weighed_silence(state.get_delta_weights(
         num_frames_ready,
@@ -444,7 +444,7 @@ pub extern "C" fn hirqazhom_trailing_silence_frames(
     starts: &[u32],
     ends: &[u32],
 ) -> Count
-    ensures { FormOf (TrailingRight silence_phones.now phones.now starts.now ends.now) trailingCount result }
+    ensures { FormOf (TrailingRight silence_phones.now phones.now starts.now ends.now) trailing_count result }
 {
     trailing_count(silence_weighting::trailing_silence_frames(silence_phones, phones, starts, ends))
 }
@@ -452,7 +452,7 @@ pub extern "C" fn hirqazhom_trailing_silence_frames(
 // The first reading that has the word, counted from 0. The words of reading i end before `ends[i]`. Refused by 11 where ends fall or pass the words.
 #[unsafe(no_mangle)]
 pub extern "C" fn hirqazhom_find(word: i32, ends: &[u32], words: &[i32]) -> Index
-    ensures { FormOf (λ f. foundOf f ≡ firstReading word (listing ends.now words.now)) foundIndex result }
+    ensures { FormOf (λ f. found_of f ≡ first_reading word (listing ends.now words.now)) found_index result }
 {
     index_of(reading_search::find(word, ends, words))
 }
@@ -461,7 +461,7 @@ pub extern "C" fn hirqazhom_find(word: i32, ends: &[u32], words: &[i32]) -> Inde
 // is unchanged, where the length is not divisible by four or the output has another.
 #[unsafe(no_mangle)]
 pub extern "C" fn hirqazhom_shuffle(block: &[u8], output: &mut [u8]) -> u32
-    ensures { FormOf (λ s. Rearranged shuffled block.now output.old s output.new) shuffledNumber result }
+    ensures { FormOf (λ s. Rearranged shuffled block.now output.old s output.new) shuffled_number result }
 {
     shuffled_number(shuffle::shuffle(block, output))
 }
@@ -469,7 +469,7 @@ pub extern "C" fn hirqazhom_shuffle(block: &[u8], output: &mut [u8]) -> u32
 // The way back, refused likewise. Either way after the other restores every block.
 #[unsafe(no_mangle)]
 pub extern "C" fn hirqazhom_unshuffle(block: &[u8], output: &mut [u8]) -> u32
-    ensures { FormOf (λ s. Rearranged unshuffled block.now output.old s output.new) shuffledNumber result }
+    ensures { FormOf (λ s. Rearranged unshuffled block.now output.old s output.new) shuffled_number result }
 {
     shuffled_number(shuffle::unshuffle(block, output))
 }
@@ -478,7 +478,7 @@ pub extern "C" fn hirqazhom_unshuffle(block: &[u8], output: &mut [u8]) -> u32
 // `courses` or `frames` is outside 1 to 65,535, or the frame above 65,536.
 #[unsafe(no_mangle)]
 pub extern "C" fn hirqazhom_course(frame: u32, courses: u32, frames: u32) -> CourseAt
-    ensures { FormOf (λ c. c ≡ courseAt frame courses frames) courseNumbers result }
+    ensures { FormOf (λ c. c ≡ course_at frame courses frames) course_numbers result }
 {
     course_numbers(courses::course_at(frame, courses, frames))
 }
@@ -487,7 +487,7 @@ pub extern "C" fn hirqazhom_course(frame: u32, courses: u32, frames: u32) -> Cou
 // where the slice is shorter than the line: nothing is written. A verdict with number 0, or with a place that its number cannot have, has the empty line.
 #[unsafe(no_mangle)]
 pub extern "C" fn hirqazhom_write_line(verdict: Verdict, line: &mut [u8]) -> Count
-    ensures { FormOf (λ w. WrittenLine (refusalTold verdict) line.old w line.new) lineCount result }
+    ensures { FormOf (λ w. WrittenLine (refusal_told verdict) line.old w line.new) line_count result }
 {
     line_count(refusal_lines::write_line(refusal_told(verdict), line))
 }
@@ -495,7 +495,7 @@ pub extern "C" fn hirqazhom_write_line(verdict: Verdict, line: &mut [u8]) -> Cou
 // The refusal whose line the bytes are; number 0 where they are no refusal's.
 #[unsafe(no_mangle)]
 pub extern "C" fn hirqazhom_read_line(bytes: &[u8]) -> Verdict
-    ensures { FormOf (ReadLine bytes.now) lineVerdict result }
+    ensures { FormOf (ReadLine bytes.now) line_verdict result }
 {
     line_verdict(refusal_lines::read_line(bytes))
 }

@@ -5,26 +5,26 @@ use lib.Ieee.{Float}
 use mir.ValLaws.{to_z_pos}
 use Rattle.lists.specs.Tests.{never}
 use Rattle.model.specs.Basics.{nonzero, unsigned}
-use Rattle.model.specs.Ints.{nonzero-yes, nonzero-no}
-use Rattle.model.specs.Hash.{hash-base, hashNewestFirst, newest-first}
+use Rattle.model.specs.Ints.{nonzero_yes, nonzero_no}
+use Rattle.model.specs.Hash.{hash_base, hash_newest_first, newest_first}
 use Rattle.records.specs.History.{History, tag}
-use Rattle.records.specs.Layout.{Store, store, prevAt, wordAt}
+use Rattle.records.specs.Layout.{Store, store, prev_at, word_at}
 use Rattle.records.specs.Stands.{Stands}
 use Rattle.joins.specs.Walk.{words_to, NextWord}
 use Rattle.histories.specs.declared.Hashed.{Hashed}
-use Rattle.histories.specs.Reading.{joinTag, hashed, older, newer, HashIs}
+use Rattle.histories.specs.Reading.{join_tag, hashed, older, newer, HashIs}
 
 -- ---- down to the newest join
 
 -- below the first record
-pub at-start : {s : Store} {n : ℕ} {h : ℕ → History} → Stands s n h → {r : ℕ} → r ≡ 0 → joinTag (h r) ≡ tag (h r)
-unfolding joinTag tag
-at-start ok e = rw (e, ok.none)
+pub at_start_lem : {s : Store} {n : ℕ} {h : ℕ → History} → Stands s n h → {r : ℕ} → r ≡ 0 → join_tag (h r) ≡ tag (h r)
+unfolding join_tag tag
+at_start_lem ok e = rw (e, ok.none)
 
 -- a phone of 0 is none
-pub zero-pos : (n : ℕ) → eqb n 0 ≡ not (nonzero (pos n))
-zero-pos zero = refl
-zero-pos (suc n) = ne_eqb (suc n) 0 (λ e. omega arith)
+pub zero_pos : (n : ℕ) → eqb n 0 ≡ not (nonzero (pos n))
+zero_pos zero = refl
+zero_pos (suc n) = ne_eqb (suc n) 0 (λ e. omega arith)
 
 -- ---- an i32 as a u32
 
@@ -32,9 +32,9 @@ pub casts : (z : ℤ) → lt_z z (pos 0) ≡ false → SFits w32 z → T (non_ne
 casts (pos n) t f = (tt, record { fits = omega (arith, f.sfits) })
 casts (negsuc n) t f = never (sym t)
 
-pub own-word : (z : ℤ) → lt_z z (pos 0) ≡ false → nat_abs z ≡ unsigned z
-own-word (pos n) t = refl
-own-word (negsuc n) t = never (sym t)
+pub own_word : (z : ℤ) → lt_z z (pos 0) ≡ false → nat_abs z ≡ unsigned z
+own_word (pos n) t = refl
+own_word (negsuc n) t = never (sym t)
 
 -- one below zero: its bits turned over are not below zero, and turned over again they are its own
 turned : (z : ℤ) → lt_z z (pos 0) ≡ true → SFits w32 z → to_z w32 (4294967295 - of_z w32 z) ≡ pos (mag z)
@@ -44,11 +44,11 @@ turned (negsuc n) t f =
     let e : 4294967295 - (2 ^ 32 - suc n) ≡ n = omega arith in
     ap (to_z w32) e ∙ to_z_pos w32 n h
 
-pub turned-casts : (z : ℤ) → lt_z z (pos 0) ≡ true → SFits w32 z → T (non_neg (to_z w32 (4294967295 - of_z w32 z))) × Fits w32 (nat_abs (to_z w32 (4294967295 - of_z w32 z)))
-turned-casts z t f = rw (turned z t f) (tt, record { fits = omega (arith, f.sfits) })
+pub turned_casts : (z : ℤ) → lt_z z (pos 0) ≡ true → SFits w32 z → T (non_neg (to_z w32 (4294967295 - of_z w32 z))) × Fits w32 (nat_abs (to_z w32 (4294967295 - of_z w32 z)))
+turned_casts z t f = rw (turned z t f) (tt, record { fits = omega (arith, f.sfits) })
 
-pub turned-back : (z : ℤ) → lt_z z (pos 0) ≡ true → SFits w32 z → 4294967295 - nat_abs (to_z w32 (4294967295 - of_z w32 z)) ≡ unsigned z
-turned-back z t f = rw (turned z t f) (own z t)
+pub turned_back : (z : ℤ) → lt_z z (pos 0) ≡ true → SFits w32 z → 4294967295 - nat_abs (to_z w32 (4294967295 - of_z w32 z)) ≡ unsigned z
+turned_back z t f = rw (turned z t f) (own z t)
   where
     own : (z : ℤ) → lt_z z (pos 0) ≡ true → 4294967295 - mag z ≡ unsigned z
     own (pos n) t = never (sym (le-ltb n 0 (omega arith)) ∙ t)
@@ -57,42 +57,42 @@ turned-back z t f = rw (turned z t f) (own z t)
 -- ---- the hash
 
 -- one more word, as the code takes it
-pub older-is : (x : Hashed) (w : ℤ) {u m a s : ℕ} → u ≡ unsigned w → m ≡ (u * x.shift) % 2 ^ 64 → a ≡ (x.hash + m) % 2 ^ 64 → s ≡ (x.shift * hash-base) % 2 ^ 64
+pub older_is : (x : Hashed) (w : ℤ) {u m a s : ℕ} → u ≡ unsigned w → m ≡ (u * x.shift) % 2 ^ 64 → a ≡ (x.hash + m) % 2 ^ 64 → s ≡ (x.shift * hash_base) % 2 ^ 64
     → ◌≡◌ {A = Hashed} (record { hash = a; shift = s; len = x.len + 1 }) (older x w)
 unfolding older
-older-is x w a b c d = rw (d, c, b, a)
+older_is x w a b c d = rw (d, c, b, a)
 
 -- the same of a newer one
 module _ (x : Hashed) (w : ℤ) where
-  pub newer-none : SFits w32 w → of_z w32 w ≡ 0 → x ≡ newer x w
+  pub newer_none : SFits w32 w → of_z w32 w ≡ 0 → x ≡ newer x w
   unfolding newer
-  newer-none f e = rw (nonzero-no w f e) refl
+  newer_none f e = rw (nonzero_no w f e) refl
 
-  pub newer-is : {u m a s : ℕ} → (of_z w32 w ≡ 0 → ⊥) → u ≡ unsigned w → m ≡ (x.hash * hash-base) % 2 ^ 64 → a ≡ (m + u) % 2 ^ 64 → s ≡ (x.shift * hash-base) % 2 ^ 64
+  pub newer_is : {u m a s : ℕ} → (of_z w32 w ≡ 0 → ⊥) → u ≡ unsigned w → m ≡ (x.hash * hash_base) % 2 ^ 64 → a ≡ (m + u) % 2 ^ 64 → s ≡ (x.shift * hash_base) % 2 ^ 64
       → ◌≡◌ {A = Hashed} (record { hash = a; shift = s; len = x.len + 1 }) (newer x w)
   unfolding newer
-  newer-is n a b c d = rw (nonzero-yes w n, d, c, b, a) refl
+  newer_is n a b c d = rw (nonzero_yes w n, d, c, b, a) refl
 
 -- more words, newest first
-unfoldable pub olderAll : Hashed → List ℤ → Hashed
-olderAll x [] = x
-olderAll x (w ∷ ws) = olderAll (older x w) ws
+unfoldable pub older_all : Hashed → List ℤ → Hashed
+older_all x [] = x
+older_all x (w ∷ ws) = older_all (older x w) ws
 
 abbrev parts : ℕ × ℕ → ℕ → Hashed
 parts p n = record { hash = p.0; shift = p.1; len = n }
 
 -- the Rust's fold
-all-parts : (x : Hashed) (ws : List ℤ) → olderAll x ws ≡ parts (hashNewestFirst x.hash x.shift ws) (x.len + length ws)
-unfolding olderAll older hashNewestFirst
-all-parts x [] = ap (parts (x.hash, x.shift)) (sym (add-zero x.len))
-all-parts x (w ∷ ws) = all-parts (older x w) ws ∙ ap (parts (hashNewestFirst x.hash x.shift (w ∷ ws))) (omega arith)
+all_parts : (x : Hashed) (ws : List ℤ) → older_all x ws ≡ parts (hash_newest_first x.hash x.shift ws) (x.len + length ws)
+unfolding older_all older hash_newest_first
+all_parts x [] = ap (parts (x.hash, x.shift)) (sym (add-zero x.len))
+all_parts x (w ∷ ws) = all_parts (older x w) ws ∙ ap (parts (hash_newest_first x.hash x.shift (w ∷ ws))) (omega arith)
 
 -- nothing hashed yet
 abbrev pub start : Hashed
 start = record { hash = 0; shift = 1; len = 0 }
 
-all-hashed : (ws : List ℤ) → olderAll start ws ≡ hashed ws
-all-hashed ws = all-parts start ws ∙ ap₂ parts (newest-first ws) (zero-add (length ws))
+all_hashed : (ws : List ℤ) → older_all start ws ≡ hashed ws
+all_hashed ws = all_parts start ws ∙ ap₂ parts (newest_first ws) (zero-add (length ws))
 
 -- The words above record m down from `link`: x has those passed, and the next to come is that of record r, if r is above m.
 pub record Hashing (rs : List ℕ) (ls : List ℤ) (n link m : ℕ) (x : Hashed) (r : ℕ) : Type 0 where
@@ -100,24 +100,24 @@ pub record Hashing (rs : List ℕ) (ls : List ℤ) (n link m : ℕ) (x : Hashed)
   pub next : NextWord rs ls n from m r
   pub low : x.len + r ≤ link
   pub high : m ≤ link → x.len + m ≤ link
-  pub is : (gs : List Float) (h : ℕ → History) → Stands (store rs ls gs) n h → olderAll x (words_to h m from) ≡ hashed (words_to h m link)
+  pub is : (gs : List Float) (h : ℕ → History) → Stands (store rs ls gs) n h → older_all x (words_to h m from) ≡ hashed (words_to h m link)
 
 module _ {rs : List ℕ} {ls : List ℤ} {n link m : ℕ} where
-  pub hashing-none : {r : ℕ} → NextWord rs ls n link m r → Hashing rs ls n link m start r
-  hashing-none {r} N = record { from = link; next = N; low = omega (arith, N.low); high = λ a. omega arith; is = λ gs h ok. all-hashed (words_to h m link) }
+  pub hashing_none : {r : ℕ} → NextWord rs ls n link m r → Hashing rs ls n link m start r
+  hashing_none {r} N = record { from = link; next = N; low = omega (arith, N.low); high = λ a. omega arith; is = λ gs h ok. all_hashed (words_to h m link) }
 
-  pub hashing-more : {x y : Hashed} {r p q : ℕ} {w : ℤ} → Hashing rs ls n link m x r → m < r → w ≡ wordAt ls (r - 1) → y ≡ older x w → p ≡ prevAt rs (r - 1) → p < r → NextWord rs ls n p m q
+  pub hashing_more : {x y : Hashed} {r p q : ℕ} {w : ℤ} → Hashing rs ls n link m x r → m < r → w ≡ word_at ls (r - 1) → y ≡ older x w → p ≡ prev_at rs (r - 1) → p < r → NextWord rs ls n p m q
       → Hashing rs ls n link m y q
-  unfolding olderAll older
-  hashing-more {x} {y} {r} {p} {q} {w} H l a b c d N =
+  unfolding older_all older
+  hashing_more {x} {y} {r} {p} {q} {w} H l a b c d N =
       record {
         from = p;
         next = N;
         low = rw b (omega (arith, H.low, N.low));
         high = λ u. rw b (omega (arith, H.low));
-        is = λ gs h ok. rw (b, a, c) (sym (ap (olderAll x) (H.next.some l gs h ok)) ∙ H.is gs h ok);
+        is = λ gs h ok. rw (b, a, c) (sym (ap (older_all x) (H.next.some l gs h ok)) ∙ H.is gs h ok);
       }
 
-  pub hashing-end : {x : Hashed} {r : ℕ} → Hashing rs ls n link m x r → r ≤ m → HashIs rs ls n link m x
-  unfolding olderAll
-  hashing-end {x} H l = record { low = H.high; is = λ gs h ok. sym (ap (olderAll x) (H.next.none l gs h ok)) ∙ H.is gs h ok }
+  pub hashing_end : {x : Hashed} {r : ℕ} → Hashing rs ls n link m x r → r ≤ m → HashIs rs ls n link m x
+  unfolding older_all
+  hashing_end {x} H l = record { low = H.high; is = λ gs h ok. sym (ap (older_all x) (H.next.none l gs h ok)) ∙ H.is gs h ok }

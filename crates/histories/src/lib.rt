@@ -2,7 +2,7 @@
 ghost use Rattle.std.specs.Prelude.{◌≡◌, ◌-◌, ◌*◌, ◌^◌, ◌<◌, ◌≤◌, true, length};
 ghost use Rattle.model.specs.Basics.{unsigned};
 ghost use Rattle.joins.specs.Walk.{Chains};
-ghost use Rattle.histories.specs.Reading.{isJoinAt, older, newer, EndIs, HashIs};
+ghost use Rattle.histories.specs.Reading.{is_join_at, older, newer, EndIs, HashIs};
 
 use wrapping::wrapping_mul;
 
@@ -10,7 +10,7 @@ const HASH_BASE: u64 = 0x9e37_79b9_7f4a_7c15;
 
 pub fn is_join(records: &[u32], labels: &[i32], r: u32) -> bool
     requires { (0 < r) × (r * 8 ≤ length records.now) × (r * 2 ≤ length labels.now) }
-    ensures { result ≡ isJoinAt records.now labels.now (r - 1) }
+    ensures { result ≡ is_join_at records.now labels.now (r - 1) }
 {
     if records::word_of(labels, r) != 0 {
         return false;

@@ -15,17 +15,17 @@ use Rattle.joins.specs.declared.Keeping.TheVariants.{Dropped, Full, Joined}
 use Rattle.joins.specs.Worth.{worth}
 
 -- within the margin, and worth it
-unfoldable pub keepsOf : Margin → (gap : Float) → (won lost : History) → (over : ℤ) → Bool
-keepsOf Off gap won lost over = false
-keepsOf (Within m) gap won lost over = gap ≼ m && worth won lost over (m ⊖ gap)
+unfoldable pub keeps_of : Margin → (gap : Float) → (won lost : History) → (over : ℤ) → Bool
+keeps_of Off gap won lost over = false
+keeps_of (Within m) gap won lost over = gap ≼ m && worth won lost over (m ⊖ gap)
 
 -- the answer b, whatever histories the records stand for
 pub record KeptIs (s : Store) (n : ℕ) (margin : Margin) (gap : Float) (won lost : Token) (over : ℤ) (b : Bool) : Type 0 where
-  pub is : (h : ℕ → History) → Stands s n h → b ≡ keepsOf margin gap (h won.link) (h lost.link) over
+  pub is : (h : ℕ → History) → Stands s n h → b ≡ keeps_of margin gap (h won.link) (h lost.link) over
 
 -- what the join holds
-abbrev pub keptOf : (gap : Float) → (won lost : Token) → (over : ℤ) → (starts : ℕ) → Kept
-keptOf gap won lost over starts =
+abbrev pub kept_of : (gap : Float) → (won lost : Token) → (over : ℤ) → (starts : ℕ) → Kept
+kept_of gap won lost over starts =
     record { link = lost.link; word = over; starts = starts; cost = gap; graph = lost.graph ⊖ won.graph; phone = lost.phone; winner = won.phone }
 
 -- what `keep` asks: the store holds `used` records and has places for `cap`
@@ -34,12 +34,12 @@ pub record KeepAsks (s : Store) (used cap : ℕ) (won lost : Token) : Type 0 whe
   pub room : Room s cap
   pub fits : used ≤ cap
   pub small : cap ≤ 1048576
-  pub won-low : won.link ≤ used
-  pub lost-low : lost.link ≤ used
+  pub won_low : won.link ≤ used
+  pub lost_low : lost.link ≤ used
 
 -- The loser is dropped, or its join finds the store full, or the join is put on. The stores are s before and s' after.
 pub data KeepIs (s s' : Store) (used cap frame : ℕ) (margin : Margin) (gap : Float) (won lost : Token) (over : ℤ) (starts : ℕ) : Keeping → Type 0 where
-  dropsLoser : KeptIs s used margin gap won lost over false → s' ≡ s → KeepIs s s' used cap frame margin gap won lost over starts Dropped
-  findsFull : KeptIs s used margin gap won lost over true → used ≡ cap → s' ≡ s → KeepIs s s' used cap frame margin gap won lost over starts Full
-  joinsLoser : {r : ℕ} → KeptIs s used margin gap won lost over true → used < cap → JoinPut s s' used won.link frame (keptOf gap won lost over starts) r
+  drops_loser : KeptIs s used margin gap won lost over false → s' ≡ s → KeepIs s s' used cap frame margin gap won lost over starts Dropped
+  finds_full : KeptIs s used margin gap won lost over true → used ≡ cap → s' ≡ s → KeepIs s s' used cap frame margin gap won lost over starts Full
+  joins_loser : {r : ℕ} → KeptIs s used margin gap won lost over true → used < cap → JoinPut s s' used won.link frame (kept_of gap won lost over starts) r
       → KeepIs s s' used cap frame margin gap won lost over starts (Joined r)

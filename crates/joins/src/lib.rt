@@ -1,8 +1,8 @@
 // Joins: what is worth keeping of a loser, and the join that keeps it (the Rust's `worth_keeping`, `keep_lost` and `keep_arrival`).
 ghost use Rattle.std.specs.Prelude.{◌≡◌, ◌-◌, ◌*◌, ◌≤◌, ◌<◌, pos, length};
-ghost use Rattle.records.specs.Layout.{store, recAt};
+ghost use Rattle.records.specs.Layout.{store, rec_at};
 ghost use Rattle.records.specs.Shape.{Shape};
-ghost use Rattle.joins.specs.Walk.{joinWithin, Chains, MeetingIs, NextWord, SameWords, WorthIs};
+ghost use Rattle.joins.specs.Walk.{join_within, Chains, MeetingIs, NextWord, SameWords, WorthIs};
 ghost use Rattle.joins.specs.Keep.{KeptIs, KeepAsks, KeepIs};
 
 use records::Kept;
@@ -11,7 +11,7 @@ use tokens::Token;
 // Whether the record is a join whose kept history costs at most `slack`.
 fn join_within(records: &[u32], labels: &[i32], gaps: &[f32], r: u32, slack: f32) -> bool
     requires { (0 < r) × (r * 8 ≤ length records.now) × (r * 2 ≤ length labels.now) × (r * 2 ≤ length gaps.now) }
-    ensures { result ≡ joinWithin slack (recAt (store records.now labels.now gaps.now) (r - 1)) }
+    ensures { result ≡ join_within slack (rec_at (store records.now labels.now gaps.now) (r - 1)) }
 {
     if records::word_of(labels, r) != 0 {
         return false;

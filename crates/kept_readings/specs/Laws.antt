@@ -5,14 +5,14 @@ use Rattle.std.specs.Float.{nan}
 use Rattle.lists.specs.Lists.{range}
 use Rattle.model.specs.Basics.{◌≼◌}
 use Rattle.kept_readings.specs.declared.KeptReading.{KeptReading}
-use Rattle.kept_readings.specs.Kept.{keptIn, keptList, Room, sameKept, soonerKept, soonerOf, KeptPut, FoundAt, addKept, Added, areAdded, areMore, within}
-use Rattle.kept_readings.specs.Adding.{all-length, all_then, add-new, add_same}
+use Rattle.kept_readings.specs.Kept.{kept_in_lem, kept_list, Room, same_kept, sooner_kept, sooner_of, KeptPut, FoundAt, add_kept, Added, are_added, are_more, within}
+use Rattle.kept_readings.specs.Adding.{all-length, all_then, add_new, add_same}
 
 -- ---- a kept reading put in its place
 
 module _ {A : Type 0} (l : List A) (d : A) where
-  off-two : (i k j : ℕ) (x y : A) → (j ≢ i) → (j ≢ k) → slice_index_or (slice_set (slice_set l i x) k y) j d ≡ slice_index_or l j d
-  off-two i k j x y p q = get_or-set_other (slice_set l i x) k j y d q ∙ get_or-set_other l i j x d p
+  off_two : (i k j : ℕ) (x y : A) → (j ≢ i) → (j ≢ k) → slice_index_or (slice_set (slice_set l i x) k y) j d ≡ slice_index_or l j d
+  off_two i k j x y p q = get_or-set_other (slice_set l i x) k j y d q ∙ get_or-set_other l i j x d p
 
 module _ (hs ns : List ℕ) (xs : List Float) (i : ℕ) (k : KeptReading) (room : Room hs ns xs (i + 1)) where
   abbrev one : List ℕ
@@ -36,16 +36,16 @@ module _ (hs ns : List ℕ) (xs : List Float) (i : ℕ) (k : KeptReading) (room 
   wide : i * 2 + 2 ≤ length xs
   wide = let z = room.sums in omega arith
 
-  off-four : (j : ℕ) → (j ≢ i * 4) → (j ≢ i * 4 + 1) → (j ≢ i * 4 + 2) → (j ≢ i * 4 + 3) → slice_index four j ≡ slice_index ns j
-  off-four j a b c d = off-two two 0 (i * 4 + 2) (i * 4 + 3) j k.entry k.seq c d ∙ off-two ns 0 (i * 4) (i * 4 + 1) j k.len k.state a b
+  off_four : (j : ℕ) → (j ≢ i * 4) → (j ≢ i * 4 + 1) → (j ≢ i * 4 + 2) → (j ≢ i * 4 + 3) → slice_index four j ≡ slice_index ns j
+  off_four j a b c d = off_two two 0 (i * 4 + 2) (i * 4 + 3) j k.entry k.seq c d ∙ off_two ns 0 (i * 4) (i * 4 + 1) j k.len k.state a b
 
-  pub kept_put : KeptPut hs ns xs (slice_set hs i k.hash) four sums i k
-  kept_put =
+  pub kept_put_lem : KeptPut hs ns xs (slice_set hs i k.hash) four sums i k
+  kept_put_lem =
       record {
         is = λ t. record {
           hash = get_or-set_same hs i k.hash 0 (let z = room.hashes in omega arith) t;
-          len = (off-two two 0 (i * 4 + 2) (i * 4 + 3) (i * 4) k.entry k.seq (λ e. omega arith) (λ e. omega arith) ∙ get_or-set_other one (i * 4 + 1) (i * 4) k.state 0 (λ e. omega arith) ∙ get_or-set_same ns (i * 4) k.len 0 (let z = long in omega arith)) t;
-          state = (off-two two 0 (i * 4 + 2) (i * 4 + 3) (i * 4 + 1) k.entry k.seq (λ e. omega arith) (λ e. omega arith) ∙ get_or-set_same one (i * 4 + 1) k.state 0 (let z = long in simp length-set (omega arith))) t;
+          len = (off_two two 0 (i * 4 + 2) (i * 4 + 3) (i * 4) k.entry k.seq (λ e. omega arith) (λ e. omega arith) ∙ get_or-set_other one (i * 4 + 1) (i * 4) k.state 0 (λ e. omega arith) ∙ get_or-set_same ns (i * 4) k.len 0 (let z = long in omega arith)) t;
+          state = (off_two two 0 (i * 4 + 2) (i * 4 + 3) (i * 4 + 1) k.entry k.seq (λ e. omega arith) (λ e. omega arith) ∙ get_or-set_same one (i * 4 + 1) k.state 0 (let z = long in simp length-set (omega arith))) t;
           entry = (get_or-set_other three (i * 4 + 3) (i * 4 + 2) k.seq 0 (λ e. omega arith) ∙ get_or-set_same two (i * 4 + 2) k.entry 0 (let z = long in simp length-set (omega arith))) t;
           seq = get_or-set_same three (i * 4 + 3) k.seq 0 (let z = long in simp length-set (omega arith)) t;
           rank = (get_or-set_other (slice_set xs (i * 2) k.rank) (i * 2 + 1) (i * 2) k.cost nan (λ e. omega arith) ∙ get_or-set_same xs (i * 2) k.rank nan (let z = wide in omega arith)) t;
@@ -53,28 +53,28 @@ module _ (hs ns : List ℕ) (xs : List Float) (i : ℕ) (k : KeptReading) (room 
         };
         others = λ j d t. record {
           hash = get_or-set_other hs i j k.hash 0 d t;
-          len = off-four (j * 4) (λ e. d (omega arith)) (λ e. omega arith) (λ e. omega arith) (λ e. omega arith) t;
-          state = off-four (j * 4 + 1) (λ e. omega arith) (λ e. d (omega arith)) (λ e. omega arith) (λ e. omega arith) t;
-          entry = off-four (j * 4 + 2) (λ e. omega arith) (λ e. omega arith) (λ e. d (omega arith)) (λ e. omega arith) t;
-          seq = off-four (j * 4 + 3) (λ e. omega arith) (λ e. omega arith) (λ e. omega arith) (λ e. d (omega arith)) t;
-          rank = off-two xs nan (i * 2) (i * 2 + 1) (j * 2) k.rank k.cost (λ e. d (omega arith)) (λ e. omega arith) t;
-          cost = off-two xs nan (i * 2) (i * 2 + 1) (j * 2 + 1) k.rank k.cost (λ e. omega arith) (λ e. d (omega arith)) t;
+          len = off_four (j * 4) (λ e. d (omega arith)) (λ e. omega arith) (λ e. omega arith) (λ e. omega arith) t;
+          state = off_four (j * 4 + 1) (λ e. omega arith) (λ e. d (omega arith)) (λ e. omega arith) (λ e. omega arith) t;
+          entry = off_four (j * 4 + 2) (λ e. omega arith) (λ e. omega arith) (λ e. d (omega arith)) (λ e. omega arith) t;
+          seq = off_four (j * 4 + 3) (λ e. omega arith) (λ e. omega arith) (λ e. omega arith) (λ e. d (omega arith)) t;
+          rank = off_two xs nan (i * 2) (i * 2 + 1) (j * 2) k.rank k.cost (λ e. d (omega arith)) (λ e. omega arith) t;
+          cost = off_two xs nan (i * 2) (i * 2 + 1) (j * 2 + 1) k.rank k.cost (λ e. omega arith) (λ e. d (omega arith)) t;
         };
       }
 
 module _ {hs ns : List ℕ} {xs : List Float} {hs' ns' : List ℕ} {xs' : List Float} {i : ℕ} (k x : KeptReading) where
-  pub put-sooner : soonerKept k x ≡ true → KeptPut hs ns xs hs' ns' xs' i k → KeptPut hs ns xs hs' ns' xs' i (soonerOf k x)
-  put-sooner t P = subst (λ (b : Bool). KeptPut hs ns xs hs' ns' xs' i (cond b k x)) (sym t) P
+  pub put_sooner : sooner_kept k x ≡ true → KeptPut hs ns xs hs' ns' xs' i k → KeptPut hs ns xs hs' ns' xs' i (sooner_of k x)
+  put_sooner t P = subst (λ (b : Bool). KeptPut hs ns xs hs' ns' xs' i (cond b k x)) (sym t) P
 
-pub left_there : {hs ns : List ℕ} {xs : List Float} {i : ℕ} (k : KeptReading) → soonerKept k (keptIn hs ns xs i) ≡ false → KeptPut hs ns xs hs ns xs i (soonerOf k (keptIn hs ns xs i))
-left_there {hs} {ns} {xs} {i} k f = subst (λ (b : Bool). KeptPut hs ns xs hs ns xs i (cond b k (keptIn hs ns xs i))) (sym f) (record { is = refl; others = λ j d. refl })
+pub left_there : {hs ns : List ℕ} {xs : List Float} {i : ℕ} (k : KeptReading) → sooner_kept k (kept_in_lem hs ns xs i) ≡ false → KeptPut hs ns xs hs ns xs i (sooner_of k (kept_in_lem hs ns xs i))
+left_there {hs} {ns} {xs} {i} k f = subst (λ (b : Bool). KeptPut hs ns xs hs ns xs i (cond b k (kept_in_lem hs ns xs i))) (sym f) (record { is = refl; others = λ j d. refl })
 
 -- ---- one more
 
-pub list_length : (hs ns : List ℕ) (xs : List Float) (n : ℕ) → length (keptList hs ns xs n) ≡ n
+pub list_length : (hs ns : List ℕ) (xs : List Float) (n : ℕ) → length (kept_list hs ns xs n) ≡ n
 list_length hs ns xs n = go 0 n
   where
-    go : (a n : ℕ) → length (map (keptIn hs ns xs) (range a n)) ≡ n
+    go : (a n : ℕ) → length (map (kept_in_lem hs ns xs) (range a n)) ≡ n
     go a zero = refl
     go a (suc n) = ap suc (go (suc a) n)
 
@@ -83,52 +83,52 @@ length_last [] k = refl
 length_last (y ∷ ys) k = let z = length_last ys k in omega arith
 
 module _ {hs ns : List ℕ} {xs : List Float} {n : ℕ} {k : KeptReading} {p : ℕ} (F : FoundAt hs ns xs n k p) {places : ℕ} (few : n ≤ places) where
-  pub added-there : {hs' ns' : List ℕ} {xs' : List Float} → p < n → KeptPut hs ns xs hs' ns' xs' p (soonerOf k (keptIn hs ns xs p)) → Added hs ns xs n (k ∷ []) places hs' ns' xs' n
-  added-there {hs'} {ns'} {xs'} l P =
-      areAdded few (sym (add_same sameKept soonerKept k (keptIn hs ns xs) (keptIn hs' ns' xs') 0 n p (omega arith) (omega arith) (λ i a u. F.before i u) (F.found l) P.is P.others))
+  pub added_there : {hs' ns' : List ℕ} {xs' : List Float} → p < n → KeptPut hs ns xs hs' ns' xs' p (sooner_of k (kept_in_lem hs ns xs p)) → Added hs ns xs n (k ∷ []) places hs' ns' xs' n
+  added_there {hs'} {ns'} {xs'} l P =
+      are_added few (sym (add_same same_kept sooner_kept k (kept_in_lem hs ns xs) (kept_in_lem hs' ns' xs') 0 n p (omega arith) (omega arith) (λ i a u. F.before i u) (F.found l) P.is P.others))
 
-  is-new : n ≤ p → addKept (keptList hs ns xs n) (k ∷ []) ≡ keptList hs ns xs n ++ k ∷ []
-  is-new l = add-new sameKept soonerKept k (keptIn hs ns xs) 0 n (λ i a u. F.before i (omega arith))
+  is_new : n ≤ p → add_kept (kept_list hs ns xs n) (k ∷ []) ≡ kept_list hs ns xs n ++ k ∷ []
+  is_new l = add_new same_kept sooner_kept k (kept_in_lem hs ns xs) 0 n (λ i a u. F.before i (omega arith))
 
   pub added_full : {hs' ns' : List ℕ} {xs' : List Float} → n ≤ p → n ≡ places → Added hs ns xs n (k ∷ []) places hs' ns' xs' (n + 1)
   added_full l e =
-      areMore (ap (λ (z : ℕ). z + 1) e)
-      (let z : length (addKept (keptList hs ns xs n) (k ∷ [])) ≡ n + 1 = ap length (is-new l) ∙ length_last (keptList hs ns xs n) k ∙ ap (λ (z : ℕ). z + 1) (list_length hs ns xs n) in omega arith)
+      are_more (ap (λ (z : ℕ). z + 1) e)
+      (let z : length (add_kept (kept_list hs ns xs n) (k ∷ [])) ≡ n + 1 = ap length (is_new l) ∙ length_last (kept_list hs ns xs n) k ∙ ap (λ (z : ℕ). z + 1) (list_length hs ns xs n) in omega arith)
 
   pub added_new : {hs' ns' : List ℕ} {xs' : List Float} → n ≤ p → (n ≢ places) → KeptPut hs ns xs hs' ns' xs' n k → Added hs ns xs n (k ∷ []) places hs' ns' xs' (n + 1)
-  added_new {hs'} {ns'} {xs'} l d P = areAdded (omega arith) (last_of 0 n n (omega arith) (λ i a u. P.others i (λ e. omega arith)) P.is ∙ sym (is-new l))
+  added_new {hs'} {ns'} {xs'} l d P = are_added (omega arith) (last_of 0 n n (omega arith) (λ i a u. P.others i (λ e. omega arith)) P.is ∙ sym (is_new l))
     where
-      last_of : (a m z : ℕ) → a + m ≡ z → ((i : ℕ) → a ≤ i → i < z → keptIn hs' ns' xs' i ≡ keptIn hs ns xs i) → keptIn hs' ns' xs' z ≡ k → map (keptIn hs' ns' xs') (range a (m + 1)) ≡ map (keptIn hs ns xs) (range a m) ++ k ∷ []
-      last_of a zero z q o e = ap (λ (x : KeptReading). x ∷ []) (subst (λ (z : ℕ). keptIn hs' ns' xs' z ≡ k) (let w : z ≡ a = omega arith in w) e)
+      last_of : (a m z : ℕ) → a + m ≡ z → ((i : ℕ) → a ≤ i → i < z → kept_in_lem hs' ns' xs' i ≡ kept_in_lem hs ns xs i) → kept_in_lem hs' ns' xs' z ≡ k → map (kept_in_lem hs' ns' xs') (range a (m + 1)) ≡ map (kept_in_lem hs ns xs) (range a m) ++ k ∷ []
+      last_of a zero z q o e = ap (λ (x : KeptReading). x ∷ []) (subst (λ (z : ℕ). kept_in_lem hs' ns' xs' z ≡ k) (let w : z ≡ a = omega arith in w) e)
       last_of a (suc m) z q o e =
-          ap (λ (z : ℕ). map (keptIn hs' ns' xs') (range a z)) (let e : suc m + 1 ≡ suc (m + 1) = omega arith in e)
+          ap (λ (z : ℕ). map (kept_in_lem hs' ns' xs') (range a z)) (let e : suc m + 1 ≡ suc (m + 1) = omega arith in e)
           ∙ ap₂ (λ (x : KeptReading) (l : List KeptReading). x ∷ l) (o a (omega arith) (omega arith)) (last_of (suc a) m z (omega arith) (λ i l u. o i (omega arith) u) e)
 
 -- ---- more and more
 
 module _ {hs ns : List ℕ} {xs : List Float} {n places : ℕ} where
   pub added_none : n ≤ places → Added hs ns xs n [] places hs ns xs n
-  added_none l = areAdded l refl
+  added_none l = are_added l refl
 
   module _ {ks : List KeptReading} (ls : List KeptReading) {hs' ns' : List ℕ} {xs' : List Float} {m : ℕ} where
     pub added_then : {hs'' ns'' : List ℕ} {xs'' : List Float} {r : ℕ} → m ≤ places → Added hs ns xs n ks places hs' ns' xs' m → Added hs' ns' xs' m ls places hs'' ns'' xs'' r → Added hs ns xs n (ks ++ ls) places hs'' ns'' xs'' r
-    added_then f (areMore e l) b = absurd (omega arith)
-    added_then f (areAdded w e) (areAdded v d) = areAdded v (d ∙ ap (λ (l : List KeptReading). addKept l ls) e ∙ sym (all_then sameKept soonerKept (keptList hs ns xs n) ks ls))
-    added_then f (areAdded w e) (areMore v d) = areMore v (subst (λ (l : List KeptReading). places < length l) (ap (λ (l : List KeptReading). addKept l ls) e ∙ sym (all_then sameKept soonerKept (keptList hs ns xs n) ks ls)) d)
+    added_then f (are_more e l) b = absurd (omega arith)
+    added_then f (are_added w e) (are_added v d) = are_added v (d ∙ ap (λ (l : List KeptReading). add_kept l ls) e ∙ sym (all_then same_kept sooner_kept (kept_list hs ns xs n) ks ls))
+    added_then f (are_added w e) (are_more v d) = are_more v (subst (λ (l : List KeptReading). places < length l) (ap (λ (l : List KeptReading). add_kept l ls) e ∙ sym (all_then same_kept sooner_kept (kept_list hs ns xs n) ks ls)) d)
 
     -- what does not fit now never will
-    pub added-short : places < m → Added hs ns xs n ks places hs' ns' xs' m → Added hs ns xs n (ks ++ ls) places hs' ns' xs' m
-    added-short f (areAdded w e) = absurd (omega arith)
-    added-short f (areMore e l) =
-        areMore e (subst (λ (l : List KeptReading). places < length l) (sym (all_then sameKept soonerKept (keptList hs ns xs n) ks ls))
-        (let z = all-length sameKept soonerKept (addKept (keptList hs ns xs n) ks) ls in omega arith))
+    pub added_short : places < m → Added hs ns xs n ks places hs' ns' xs' m → Added hs ns xs n (ks ++ ls) places hs' ns' xs' m
+    added_short f (are_added w e) = absurd (omega arith)
+    added_short f (are_more e l) =
+        are_more e (subst (λ (l : List KeptReading). places < length l) (sym (all_then same_kept sooner_kept (kept_list hs ns xs n) ks ls))
+        (let z = all-length same_kept sooner_kept (add_kept (kept_list hs ns xs n) ks) ls in omega arith))
 
   module _ (bound : Float) (k : KeptReading) where
-    pub added-not : (bound ≼ k.rank) ≡ true → n ≤ places → Added hs ns xs n (within bound (k ∷ [])) places hs ns xs n
-    added-not t l = subst (λ (b : Bool). Added hs ns xs n (cond (not b) (k ∷ []) []) places hs ns xs n) (sym t) (added_none l)
+    pub added_not : (bound ≼ k.rank) ≡ true → n ≤ places → Added hs ns xs n (within bound (k ∷ [])) places hs ns xs n
+    added_not t l = subst (λ (b : Bool). Added hs ns xs n (cond (not b) (k ∷ []) []) places hs ns xs n) (sym t) (added_none l)
 
-    pub added-within : {hs' ns' : List ℕ} {xs' : List Float} {r : ℕ} → (bound ≼ k.rank) ≡ false → Added hs ns xs n (k ∷ []) places hs' ns' xs' r → Added hs ns xs n (within bound (k ∷ [])) places hs' ns' xs' r
-    added-within {hs'} {ns'} {xs'} {r} f A = subst (λ (b : Bool). Added hs ns xs n (cond (not b) (k ∷ []) []) places hs' ns' xs' r) (sym f) A
+    pub added_within : {hs' ns' : List ℕ} {xs' : List Float} {r : ℕ} → (bound ≼ k.rank) ≡ false → Added hs ns xs n (k ∷ []) places hs' ns' xs' r → Added hs ns xs n (within bound (k ∷ [])) places hs' ns' xs' r
+    added_within {hs'} {ns'} {xs'} {r} f A = subst (λ (b : Bool). Added hs ns xs n (cond (not b) (k ∷ []) []) places hs' ns' xs' r) (sym f) A
 
-    pub added-as : {j : KeptReading} {hs' ns' : List ℕ} {xs' : List Float} {r : ℕ} → k ≡ j → Added hs ns xs n (within bound (k ∷ [])) places hs' ns' xs' r → Added hs ns xs n (within bound (j ∷ [])) places hs' ns' xs' r
-    added-as {j} {hs'} {ns'} {xs'} {r} e A = subst (λ (i : KeptReading). Added hs ns xs n (within bound (i ∷ [])) places hs' ns' xs' r) e A
+    pub added_as : {j : KeptReading} {hs' ns' : List ℕ} {xs' : List Float} {r : ℕ} → k ≡ j → Added hs ns xs n (within bound (k ∷ [])) places hs' ns' xs' r → Added hs ns xs n (within bound (j ∷ [])) places hs' ns' xs' r
+    added_as {j} {hs'} {ns'} {xs'} {r} e A = subst (λ (i : KeptReading). Added hs ns xs n (within bound (i ∷ [])) places hs' ns' xs' r) e A

@@ -2,11 +2,11 @@
 // many words, the state of its token, the entry that its path goes on with below the token's newest join, and the token's seq; `sums` has two: its rank and its cost.
 ghost use Rattle.std.specs.Prelude.{◌≡◌, ◌+◌, ◌-◌, ◌*◌, ◌^◌, ◌<◌, ◌≤◌, [], ◌∷◌, length, if◌then◌else◌};
 ghost use Rattle.model.specs.Basics.{◌⊖◌, ◌⊗◌, 0f, 1f};
-ghost use Rattle.model.specs.Reads.{graph-scale};
+ghost use Rattle.model.specs.Reads.{graph_scale};
 ghost use Rattle.joins.specs.Walk.{Chains};
 ghost use Rattle.entries.specs.Entries.{entry_at, Room as EntryRoom};
-ghost use Rattle.kept_readings.specs.Kept.{keptIn, Room, sameKept, soonerKept, soonerOf, KeptPut, FoundAt, Added, within};
-ghost use Rattle.kept_readings.specs.Heads.{keptBy, keptFrom, EntriesAsk, HeadAsks, HeadAdded, FillAsks, FillIs, bestWithin, mayRank, StateAsks, IsHeadIs, KeptIf, HeadsAsk, HeadsAre};
+ghost use Rattle.kept_readings.specs.Kept.{kept_in_lem, Room, same_kept, sooner_kept, sooner_of, KeptPut, FoundAt, Added, within};
+ghost use Rattle.kept_readings.specs.Heads.{kept_by, kept_from_lem, EntriesAsk, HeadAsks, HeadAdded, FillAsks, FillIs, best_within, may_rank, StateAsks, IsHeadIs, KeptIf, HeadsAsk, HeadsAre};
 
 use entries::Entry;
 use histories::Hashed;
@@ -26,7 +26,7 @@ pub struct KeptReading {
 
 pub fn kept_at(hashes: &[u64], links: &[u32], sums: &[f32], i: usize) -> KeptReading
     requires { Room hashes.now links.now sums.now (i + 1) }
-    ensures { result ≡ keptIn hashes.now links.now sums.now i }
+    ensures { result ≡ kept_in_lem hashes.now links.now sums.now i }
 {
     KeptReading {
         hash: hashes[i],
@@ -53,7 +53,7 @@ fn put_kept(hashes: &mut [u64], links: &mut [u32], sums: &mut [f32], i: usize, k
 }
 
 fn same_kept(a: KeptReading, b: KeptReading) -> bool
-    ensures { result ≡ sameKept a b }
+    ensures { result ≡ same_kept a b }
 {
     if a.hash != b.hash {
         return false;
@@ -62,7 +62,7 @@ fn same_kept(a: KeptReading, b: KeptReading) -> bool
 }
 
 fn kept_sooner(a: KeptReading, b: KeptReading) -> bool
-    ensures { result ≡ soonerKept a b }
+    ensures { result ≡ sooner_kept a b }
 {
     if a.rank < b.rank {
         return true;
@@ -89,7 +89,7 @@ fn find_kept(hashes: &[u64], links: &[u32], sums: &[f32], n: usize, k: KeptReadi
 // Puts k where it comes sooner than the one that is there.
 fn put_sooner(hashes: &mut [u64], links: &mut [u32], sums: &mut [f32], i: usize, k: KeptReading)
     requires { Room hashes.old links.old sums.old (i + 1) }
-    ensures { KeptPut hashes.old links.old sums.old hashes.new links.new sums.new i (soonerOf k (keptIn hashes.old links.old sums.old i)) }
+    ensures { KeptPut hashes.old links.old sums.old hashes.new links.new sums.new i (sooner_of k (kept_in_lem hashes.old links.old sums.old i)) }
 {
     if kept_sooner(k, kept_at(hashes, links, sums, i)) {
         put_kept(hashes, links, sums, i, k);
@@ -143,7 +143,7 @@ const GRAPH_SCALE: f32 = 0.9;
 
 // What a graph sum takes off a rank.
 fn scaled(counts: bool, graph: f32) -> f32
-    ensures { result ≡ (if counts then ((1f ⊖ graph-scale) ⊗ graph) else 0f) }
+    ensures { result ≡ (if counts then ((1f ⊖ graph_scale) ⊗ graph) else 0f) }
 {
     if counts {
         (1.0 - GRAPH_SCALE) * graph
@@ -155,7 +155,7 @@ fn scaled(counts: bool, graph: f32) -> f32
 // The kept reading of a token by entry e below its newest join; `above` has the token's words above that.
 fn kept_by(c: Candidate, counts: bool, above: Hashed, e: u32, b: Entry) -> KeptReading
     requires { b.len + above.len < 2 ^ 32 }
-    ensures { result ≡ keptBy c counts above e b }
+    ensures { result ≡ kept_by c counts above e b }
 {
     KeptReading {
         hash: std::num::wrapping_add_u64(wrapping_mul(b.hash, above.shift), above.hash),
@@ -184,7 +184,7 @@ fn add_entry(
     places: usize,
 ) -> usize
     requires { (EntryRoom hashes.now nexts.now costs.now e) × ((entry_at hashes.now nexts.now costs.now e).len + above.len < 2 ^ 32) × (Room kept_hashes.old kept_links.old kept_sums.old places) × (n ≤ places) }
-    ensures { Added kept_hashes.old kept_links.old kept_sums.old n (within bound (keptBy c counts above e (entry_at hashes.now nexts.now costs.now e) ∷ [])) places kept_hashes.new kept_links.new kept_sums.new result }
+    ensures { Added kept_hashes.old kept_links.old kept_sums.old n (within bound (kept_by c counts above e (entry_at hashes.now nexts.now costs.now e) ∷ [])) places kept_hashes.new kept_links.new kept_sums.new result }
 {
     let b = entries::entry_at(hashes, nexts, costs, e);
     let k = kept_by(c, counts, above, e, b);
@@ -209,7 +209,7 @@ fn add_below(
     places: usize,
 ) -> usize
     requires { (EntriesAsk hashes.now nexts.now costs.now first count above.len) × (Room kept_hashes.old kept_links.old kept_sums.old places) × (n ≤ places) }
-    ensures { Added kept_hashes.old kept_links.old kept_sums.old n (within bound (keptFrom hashes.now nexts.now costs.now c counts above (first + 1) (count - 1))) places kept_hashes.new kept_links.new kept_sums.new result }
+    ensures { Added kept_hashes.old kept_links.old kept_sums.old n (within bound (kept_from_lem hashes.now nexts.now costs.now c counts above (first + 1) (count - 1))) places kept_hashes.new kept_links.new kept_sums.new result }
 {
     let mut m = n;
     let mut i: u32 = 1;
@@ -344,7 +344,7 @@ pub fn fill_kept(
 // ---- which tokens are heads
 
 fn best_within(bound: f32, best: Best) -> bool
-    ensures { result ≡ bestWithin bound best }
+    ensures { result ≡ best_within bound best }
 {
     match best {
         Best::Nobody => false,
@@ -363,7 +363,7 @@ fn may_rank(
     s: u32,
 ) -> bool
     requires { (side ≤ 1) × (s * 8 + 8 ≤ length tokens.now) × (s * 4 + 4 ≤ length sums.now) × (s < length finals.now) }
-    ensures { result ≡ mayRank tokens.now sums.now finals.now side counts bound s }
+    ensures { result ≡ may_rank tokens.now sums.now finals.now side counts bound s }
 {
     if counts {
         return true;

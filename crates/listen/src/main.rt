@@ -5,7 +5,7 @@
 // rule for ties decides, each time and on every build the same: states are visited in ascending number, and of equal ranks the newest token wins.
 ghost use Rattle.std.specs.Prelude.{◌≤◌, ◌<◌, length};
 ghost use Rattle.stores.specs.Rep.{lent};
-ghost use Rattle.nonemitting.specs.Expand.{graphTables};
+ghost use Rattle.nonemitting.specs.Expand.{graph_tables};
 ghost use Rattle.decoder.specs.Contracts.{FinalsLeft};
 ghost use Rattle.listen.specs.Held.{Hearing};
 
@@ -216,7 +216,7 @@ fn hear_frames(
     tid2phone: &[i32],
     fitted: Decoder,
 )
-    requires { Hearing (graphTables offsets.now ilabels.now olabels.now weights.now nextstates.now tid2pdf.now tid2phone.now) (lent tokens.old sums.old records.old labels.old gaps.old) finals.now eps.now (length queue.old) (length scratch.old) fitted }
+    requires { Hearing (graph_tables offsets.now ilabels.now olabels.now weights.now nextstates.now tid2pdf.now tid2phone.now) (lent tokens.old sums.old records.old labels.old gaps.old) finals.now eps.now (length queue.old) (length scratch.old) fitted }
 {
     let mut d = fitted;
     for i in 0..FRAMES {

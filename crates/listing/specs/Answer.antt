@@ -8,10 +8,10 @@ use Rattle.listing.specs.declared.Ranked.{Ranked}
 use Rattle.listing.specs.declared.KeptFound.{KeptFound}
 use Rattle.listing.specs.declared.KeptFound.TheVariants.{Full as NoPlace, Found as FoundOf}
 use Rattle.listing.specs.declared.Listing.TheVariants.{Full, Items}
-use Rattle.listing.specs.Listed.{StoresAsk, boundOf, BoundAsks, OwnListed, Found, FoundIs, areFound, Slices, WithAsks, WithIs, overfull, ListingIs, isFull, areItems}
-use Rattle.listing.specs.Owning.{few-own, at_held}
-use Rattle.listing.specs.Finding.{own-asks}
-use Rattle.listing.specs.Counts.{found-fits, found-full}
+use Rattle.listing.specs.Listed.{StoresAsk, bound_of, BoundAsks, OwnListed, Found, FoundIs, are_found, Slices, WithAsks, WithIs, overfull, ListingIs, is_full, are_items}
+use Rattle.listing.specs.Owning.{few_own, at_held}
+use Rattle.listing.specs.Finding.{own_asks}
+use Rattle.listing.specs.Counts.{found_fits, found_full}
 use Rattle.listing.specs.Listing.{list_right}
 
 module _ {tk : List ℕ} {sm fs : List Float} {rs : List ℕ} {ls : List ℤ} {gs : List Float} {n b used : ℕ} {keeps : Bool} {margin : Float} (A : StoresAsk tk sm fs rs ls gs n b used keeps margin) (listed : ℕ) (listing : (keeps && ltb 0 listed) ≡ true) where
@@ -19,84 +19,84 @@ module _ {tk : List ℕ} {sm fs : List Float} {rs : List ℕ} {ls : List ℤ} {g
   begins = ltb-true 0 listed (and_both keeps (ltb 0 listed) listing).1
 
   -- where kept readings are listed, merges were kept
-  pub stores-kept : StoresAsk tk sm fs rs ls gs n b used true margin
-  stores-kept = subst (λ (k : Bool). StoresAsk tk sm fs rs ls gs n b used k margin) (and_both keeps (ltb 0 listed) listing).0 A
+  pub stores_kept : StoresAsk tk sm fs rs ls gs n b used true margin
+  stores_kept = subst (λ (k : Bool). StoresAsk tk sm fs rs ls gs n b used k margin) (and_both keeps (ltb 0 listed) listing).0 A
 
   -- for the bound
-  pub bound-asks : {counts : Bool} {heads own : List ℕ} {o : Ranked} → OwnListed tk sm fs rs ls b n used counts heads own o → BoundAsks tk sm fs b own o.own listed
-  bound-asks {counts} {own = own} O =
+  pub bound_asks : {counts : Bool} {heads own : List ℕ} {o : Ranked} → OwnListed tk sm fs rs ls b n used counts heads own o → BoundAsks tk sm fs b own o.own listed
+  bound_asks {counts} {own = own} O =
       record {
         side = A.side;
         begins = begins;
         room = O.room;
-        each = λ i l. own-asks A (get_or own i 0) (at_held A.situation counts O.ranked O.copied O.firsts O.room i l);
+        each = λ i l. own_asks A (get_or own i 0) (at_held A.situation counts O.ranked O.copied O.firsts O.room i l);
       }
 
 -- how many were found
-found_of : {tk : List ℕ} {sm fs : List Float} {rs : List ℕ} {ls : List ℤ} {gs : List Float} {b used : ℕ} {margin : Float} {counts : Bool} {listed : ℕ} {bound : Float} {heads : List ℕ} {all : ℕ} {hs ns : List ℕ} {xs : List Float} {entries : ℕ} {khs kns : List ℕ} {kxs : List Float} {most r : ℕ}
+found_of_lem : {tk : List ℕ} {sm fs : List Float} {rs : List ℕ} {ls : List ℤ} {gs : List Float} {b used : ℕ} {margin : Float} {counts : Bool} {listed : ℕ} {bound : Float} {heads : List ℕ} {all : ℕ} {hs ns : List ℕ} {xs : List Float} {entries : ℕ} {khs kns : List ℕ} {kxs : List Float} {most r : ℕ}
     → FoundIs tk sm fs rs ls gs b used margin counts listed bound heads all hs ns xs entries khs kns kxs most (FoundOf r) → Found tk sm fs rs ls gs b used margin counts listed bound heads all hs ns xs entries khs kns kxs most r × (r ≤ most)
-found_of (areFound r F l) = (F, l)
+found_of_lem (are_found r F l) = (F, l)
 
-module _ {tk : List ℕ} {sm fs : List Float} {rs : List ℕ} {ls : List ℤ} {gs : List Float} {n b used : ℕ} {margin : Float} {counts : Bool} {heads own : List ℕ} {o : Ranked} (O : OwnListed tk sm fs rs ls b n used counts heads own o) {listed : ℕ} {bound : Float} (at_bound : bound ≡ boundOf tk sm fs b counts own o.own listed)
+module _ {tk : List ℕ} {sm fs : List Float} {rs : List ℕ} {ls : List ℤ} {gs : List Float} {n b used : ℕ} {margin : Float} {counts : Bool} {heads own : List ℕ} {o : Ranked} (O : OwnListed tk sm fs rs ls b n used counts heads own o) {listed : ℕ} {bound : Float} (at_bound : bound ≡ bound_of tk sm fs b counts own o.own listed)
     {hs ns : List ℕ} {xs : List Float} {entries : ℕ} {khs kns : List ℕ} {kxs : List Float} {most : ℕ} {res : KeptFound} (F : FoundIs tk sm fs rs ls gs b used margin counts listed bound heads o.all hs ns xs entries khs kns kxs most res) where
   -- by the bound that was computed
-  found_as : (f : KeptFound) → res ≡ f → FoundIs tk sm fs rs ls gs b used margin counts listed (boundOf tk sm fs b counts own o.own listed) heads o.all hs ns xs entries khs kns kxs most f
+  found_as : (f : KeptFound) → res ≡ f → FoundIs tk sm fs rs ls gs b used margin counts listed (bound_of tk sm fs b counts own o.own listed) heads o.all hs ns xs entries khs kns kxs most f
   found_as f e =
-      subst (λ (x : KeptFound). FoundIs tk sm fs rs ls gs b used margin counts listed (boundOf tk sm fs b counts own o.own listed) heads o.all hs ns xs entries khs kns kxs most x) e
+      subst (λ (x : KeptFound). FoundIs tk sm fs rs ls gs b used margin counts listed (bound_of tk sm fs b counts own o.own listed) heads o.all hs ns xs entries khs kns kxs most x) e
       (subst (λ (y : Float). FoundIs tk sm fs rs ls gs b used margin counts listed y heads o.all hs ns xs entries khs kns kxs most res) at_bound F)
 
   -- a store is full
-  pub is-full : (keeps : Bool) (A : StoresAsk tk sm fs rs ls gs n b used keeps margin) → (keeps && ltb 0 listed) ≡ true → {kept : ℕ} → most ≡ kept → res ≡ NoPlace → {list : List ℕ}
+  pub is_full_lem : (keeps : Bool) (A : StoresAsk tk sm fs rs ls gs n b used keeps margin) → (keeps && ltb 0 listed) ≡ true → {kept : ℕ} → most ≡ kept → res ≡ NoPlace → {list : List ℕ}
       → ListingIs tk sm fs rs ls gs n b used keeps margin counts listed entries kept hs ns xs khs kns kxs list Full
-  is-full true A l {kept} e q =
-      isFull
-      (λ S use-final c.
-      subst (λ (k : ℕ). overfull S use-final listed entries k ≡ true) e (found-full S A.few-records counts use-final c O listed (begins A listed l) (found_as NoPlace q)))
-  is-full false A l e q = never l
+  is_full_lem true A l {kept} e q =
+      is_full
+      (λ S use_final c.
+      subst (λ (k : ℕ). overfull S use_final listed entries k ≡ true) e (found_full S A.few_records counts use_final c O listed (begins A listed l) (found_as NoPlace q)))
+  is_full_lem false A l e q = never l
 
   module _ {r : ℕ} (q : res ≡ FoundOf r) where
     -- both are put together
-    pub with-asks : {keeps : Bool} (A : StoresAsk tk sm fs rs ls gs n b used keeps margin) → (keeps && ltb 0 listed) ≡ true → listed ≤ 64 → EntryRoom hs ns xs entries → most ≤ 0x7fff_fff0 → Room khs kns kxs most → {z : Slices}
-        → (n ≤ z.keys) × (most ≤ z.keys) → n ≤ z.places → n ≤ z.gone → most ≤ z.order → used ≤ z.first-route → used ≤ z.second-route → n + most ≤ z.list → WithAsks tk sm fs rs ls n b used counts own o.own ns khs kns kxs r z
-    with-asks A l few E m K keys places gone order first second list =
+    pub with_asks : {keeps : Bool} (A : StoresAsk tk sm fs rs ls gs n b used keeps margin) → (keeps && ltb 0 listed) ≡ true → listed ≤ 64 → EntryRoom hs ns xs entries → most ≤ 0x7fff_fff0 → Room khs kns kxs most → {z : Slices}
+        → (n ≤ z.keys) × (most ≤ z.keys) → n ≤ z.places → n ≤ z.gone → most ≤ z.order → used ≤ z.first_route → used ≤ z.second_route → n + most ≤ z.list → WithAsks tk sm fs rs ls n b used counts own o.own ns khs kns kxs r z
+    with_asks A l few E m K keys places gone order first second list =
         record {
           gs = gs;
           margin = margin;
-          stores = stores-kept A listed l;
+          stores = stores_kept A listed l;
           ranked = o;
-          own-are = refl;
+          own_are = refl;
           heads = heads;
-          own-listed = O;
+          own_listed = O;
           listed = listed;
           begins = begins A listed l;
-          listed-few = few;
+          listed_few = few;
           hs = hs;
           xs = xs;
           entries = entries;
           nexts = E.nexts;
           most = most;
-          found = (found_of (found_as (FoundOf r) q)).0;
-          few = (found_of (found_as (FoundOf r) q)).1;
-          most-few = m;
+          found = (found_of_lem (found_as (FoundOf r) q)).0;
+          few = (found_of_lem (found_as (FoundOf r) q)).1;
+          most_few = m;
           room = K;
-          keys-long = keys;
-          places-long = places;
+          keys_long = keys;
+          places_long = places;
           gone_long = gone;
-          order-long = order;
-          first-long = first;
-          second-long = second;
-          list-long = list;
+          order_long = order;
+          first_long = first;
+          second_long = second;
+          list_long = list;
         }
 
     -- and are the list
-    pub are-items : (keeps : Bool) (A : StoresAsk tk sm fs rs ls gs n b used keeps margin) → (keeps && ltb 0 listed) ≡ true → EntryRoom hs ns xs entries → Room khs kns kxs most → {kept : ℕ} → most ≡ kept
+    pub are_items_lem : (keeps : Bool) (A : StoresAsk tk sm fs rs ls gs n b used keeps margin) → (keeps && ltb 0 listed) ≡ true → EntryRoom hs ns xs entries → Room khs kns kxs most → {kept : ℕ} → most ≡ kept
         → {list : List ℕ} {k : ℕ} → WithIs tk sm fs rs ls b counts own o.own ns khs kns kxs r list k → ListingIs tk sm fs rs ls gs n b used keeps margin counts listed entries kept hs ns xs khs kns kxs list (Items k)
-    are-items true A l E K e {k = k} W =
-        let x = found_of (found_as (FoundOf r) q) in
+    are_items_lem true A l E K e {k = k} W =
+        let x = found_of_lem (found_as (FoundOf r) q) in
         let y = x.1 in
         let g = begins A listed l in
-        let m = few-own O in
-        areItems k W.room (let w = W.few in omega arith)
-        (λ S use-final c.
-        (subst (λ (j : ℕ). overfull S use-final listed entries j ≡ false) e (found-fits S A.few-records counts use-final c O listed g x.0 y), list_right S A.few A.few-records counts use-final c O g x.0 y E.nexts K W))
-    are-items false A l E K e W = never l
+        let m = few_own O in
+        are_items k W.room (let w = W.few in omega arith)
+        (λ S use_final c.
+        (subst (λ (j : ℕ). overfull S use_final listed entries j ≡ false) e (found_fits S A.few_records counts use_final c O listed g x.0 y), list_right S A.few A.few_records counts use_final c O g x.0 y E.nexts K W))
+    are_items_lem false A l E K e W = never l

@@ -2,28 +2,28 @@
 use Rattle.std.specs.Prelude.{◌≡◌, ℕ, ◌-◌, ◌+◌, ◌*◌, ◌≤◌, ◌<◌, Bool, true, false, not, ◌||◌, cond, List, map, ℤ, T, ltb, length, get_or, take, Float}
 use Rattle.std.proofs.Math.Option.{some}
 use Rattle.std.specs.Float.Ieee.{is_nan}
-use Rattle.lists.specs.Lists.{keepIf}
+use Rattle.lists.specs.Lists.{keep_if}
 use Rattle.model.specs.Basics.{∞, over}
-use Rattle.model.specs.Reads.{useFinals}
+use Rattle.model.specs.Reads.{use_finals}
 use Rattle.model.specs.Readings.{Below, readings}
 use Rattle.tokens.specs.Layout.{held_at, place_in}
 use Rattle.traceback.specs.declared.Candidate.{Candidate}
 use Rattle.traceback.specs.declared.Best.TheVariants.{Token as TokenOf}
-use Rattle.traceback.specs.Ranks.{candidateAt}
+use Rattle.traceback.specs.Ranks.{candidate_at}
 use Rattle.traceback.specs.Chain.{Walkable}
 use Rattle.below.specs.Stored.{stands_for, Decoded}
 use Rattle.below.specs.Filling.{BelowIs}
-use Rattle.below.specs.Marks.{headLinks}
+use Rattle.below.specs.Marks.{head_links}
 use Rattle.ranking.specs.Ranked.{RankedIs}
 use Rattle.groups.specs.Firsts.{FirstsIs}
-use Rattle.kept_readings.specs.Kept.{keptIn, Room}
+use Rattle.kept_readings.specs.Kept.{kept_in_lem, Room}
 use Rattle.kept_readings.specs.Heads.{HeadsAre, FillIs}
-use Rattle.kept_order.specs.Before.{keptBefore}
+use Rattle.kept_order.specs.Before.{kept_before_lem}
 use Rattle.kept_order.specs.Asks.{OrderIs}
-use Rattle.merged.specs.Items.{OwnAsks, ownRank, keptFirst, mergedItems}
-use Rattle.merged.specs.Left.{keptStands, ownLeft}
+use Rattle.merged.specs.Items.{OwnAsks, own_rank, kept_first, merged_items}
+use Rattle.merged.specs.Left.{kept_stands, own_left_lem}
 use Rattle.listing_laws.specs.Situation.{Situation, Held}
-use Rattle.listing_laws.specs.Whole.{itemGroup, sameTest}
+use Rattle.listing_laws.specs.Whole.{item_group, same_test}
 use Rattle.listing.specs.declared.Ranked.{Ranked}
 use Rattle.listing.specs.declared.KeptFound.{KeptFound}
 use Rattle.listing.specs.declared.KeptFound.TheVariants.{Full as NoPlace, Found as IsFound}
@@ -55,9 +55,9 @@ pub record StoresAsk (tk : List ℕ) (sm fs : List Float) (rs : List ℕ) (ls : 
   pub walkable : Walkable rs ls used
   pub gaps : used * 2 ≤ length gs
   pub few : n ≤ 65_535
-  pub few-records : used ≤ 1_048_576
+  pub few_records : used ≤ 1_048_576
   pub situation : Situation tk sm fs rs ls gs n b used keeps margin
-  pub known : (counts : Bool) (s : ℕ) → s < n → (held_at tk (place_in b s) ≡ 0 → ⊥) → (c : Candidate) → candidateAt tk sm fs b s counts ≡ TokenOf c → T (not (is_nan c.rank))
+  pub known : (counts : Bool) (s : ℕ) → s < n → (held_at tk (place_in b s) ≡ 0 → ⊥) → (c : Candidate) → candidate_at tk sm fs b s counts ≡ TokenOf c → T (not (is_nan c.rank))
 
 -- a place for every state, for every record, and for every kept reading that the store has places for
 pub record ScratchWide (n used kept : ℕ) (z : Scratch) : Type 0 where
@@ -83,8 +83,8 @@ pub record Copied (from to' : List ℕ) (n : ℕ) : Type 0 where
   pub is : take n to' ≡ take n from
 
 -- what a kept reading has to rank below: the rank of the listed-th own group, +∞ where there are fewer
-abbrev pub boundOf : List ℕ → (sm fs : List Float) → (side : ℕ) → (counts : Bool) → (own : List ℕ) → (m listed : ℕ) → Float
-boundOf tk sm fs b counts own m listed = cond (ltb m listed) ∞ (ownRank tk sm fs b counts (get_or own (listed - 1) 0))
+abbrev pub bound_of : List ℕ → (sm fs : List Float) → (side : ℕ) → (counts : Bool) → (own : List ℕ) → (m listed : ℕ) → Float
+bound_of tk sm fs b counts own m listed = cond (ltb m listed) ∞ (own_rank tk sm fs b counts (get_or own (listed - 1) 0))
 
 -- that group's token has its places
 pub record BoundAsks (tk : List ℕ) (sm fs : List Float) (b : ℕ) (own : List ℕ) (m listed : ℕ) : Type 0 where
@@ -99,10 +99,10 @@ pub record OwnListAsks (tk : List ℕ) (sm fs : List Float) (rs : List ℕ) (ls 
   pub keeps : Bool
   pub margin : Float
   pub stores : StoresAsk tk sm fs rs ls gs n b used keeps margin
-  pub keys-long : n ≤ keys
-  pub places-long : n ≤ places
-  pub own-long : n ≤ own
-  pub heads-long : n ≤ heads
+  pub keys_long : n ≤ keys
+  pub places_long : n ≤ places
+  pub own_long : n ≤ own
+  pub heads_long : n ≤ heads
 
 -- ranked states in `heads`, and of each word list the first in `own`
 pub record OwnListed (tk : List ℕ) (sm fs : List Float) (rs : List ℕ) (ls : List ℤ) (b n used : ℕ) (counts : Bool) (heads own : List ℕ) (r : Ranked) : Type 0 where
@@ -126,10 +126,10 @@ pub record FindAsks (tk : List ℕ) (sm fs : List Float) (rs : List ℕ) (ls : L
   pub stores : StoresAsk tk sm fs rs ls gs n b used true margin
   pub few : listed ≤ 64
   pub ranked : RankedIs tk sm fs b n counts heads all
-  pub heads-long : n ≤ length heads
-  pub keys-long : n ≤ keys
-  pub places-long : n ≤ places
-  pub lists-long : used * 2 ≤ lists
+  pub heads_long : n ≤ length heads
+  pub keys_long : n ≤ keys
+  pub places_long : n ≤ places
+  pub lists_long : used * 2 ≤ lists
   pub room : Room khs kns kxs most
 
 -- the lists below the heads, and the map of kept readings, r of them or one more than the places
@@ -140,8 +140,8 @@ pub record Found (tk : List ℕ) (sm fs : List Float) (rs : List ℕ) (ls : List
   pub are : HeadsListed tk sm fs rs ls b used counts bound heads heads' all m
   pub lists : List ℕ
   pub free : ℕ
-  pub some-free : free ≡ 0 → ⊥
-  pub below : BelowIs rs ls gs used margin (listed + 1) (headLinks tk b heads' m) lists hs ns xs entries free
+  pub some_free : free ≡ 0 → ⊥
+  pub below : BelowIs rs ls gs used margin (listed + 1) (head_links tk b heads' m) lists hs ns xs entries free
   pub hashes : List ℕ
   pub links : List ℕ
   pub ksums : List Float
@@ -150,11 +150,11 @@ pub record Found (tk : List ℕ) (sm fs : List Float) (rs : List ℕ) (ls : List
 -- a full store, or how many were found
 pub data FoundIs (tk : List ℕ) (sm fs : List Float) (rs : List ℕ) (ls : List ℤ) (gs : List Float) (b used : ℕ) (margin : Float) (counts : Bool) (listed : ℕ) (bound : Float) (heads : List ℕ) (all : ℕ)
     (hs ns : List ℕ) (xs : List Float) (entries : ℕ) (khs kns : List ℕ) (kxs : List Float) (most : ℕ) : KeptFound → Type 0 where
-  entriesFull : (heads' : List ℕ) (m : ℕ) → HeadsListed tk sm fs rs ls b used counts bound heads heads' all m → (lists : List ℕ) → BelowIs rs ls gs used margin (listed + 1) (headLinks tk b heads' m) lists hs ns xs entries 0
+  entries_full : (heads' : List ℕ) (m : ℕ) → HeadsListed tk sm fs rs ls b used counts bound heads heads' all m → (lists : List ℕ) → BelowIs rs ls gs used margin (listed + 1) (head_links tk b heads' m) lists hs ns xs entries 0
       → FoundIs tk sm fs rs ls gs b used margin counts listed bound heads all hs ns xs entries khs kns kxs most NoPlace
-  mapFull : (r : ℕ) → Found tk sm fs rs ls gs b used margin counts listed bound heads all hs ns xs entries khs kns kxs most r → most < r
+  map_full : (r : ℕ) → Found tk sm fs rs ls gs b used margin counts listed bound heads all hs ns xs entries khs kns kxs most r → most < r
       → FoundIs tk sm fs rs ls gs b used margin counts listed bound heads all hs ns xs entries khs kns kxs most NoPlace
-  areFound : (r : ℕ) → Found tk sm fs rs ls gs b used margin counts listed bound heads all hs ns xs entries khs kns kxs most r → r ≤ most
+  are_found : (r : ℕ) → Found tk sm fs rs ls gs b used margin counts listed bound heads all hs ns xs entries khs kns kxs most r → r ≤ most
       → FoundIs tk sm fs rs ls gs b used margin counts listed bound heads all hs ns xs entries khs kns kxs most (IsFound r)
 
 -- ---- both together
@@ -165,12 +165,12 @@ pub record Slices : Type 0 where
   pub places : ℕ
   pub gone : ℕ
   pub order : ℕ
-  pub first-route : ℕ
-  pub second-route : ℕ
+  pub first_route : ℕ
+  pub second_route : ℕ
   pub list : ℕ
 
 abbrev pub slices : (keys places gone order first second list : ℕ) → Slices
-slices k p g o r q l = record { keys = k; places = p; gone = g; order = o; first-route = r; second-route = q; list = l }
+slices k p g o r q l = record { keys = k; places = p; gone = g; order = o; first_route = r; second_route = q; list = l }
 
 -- own groups, and kept readings that were found
 pub record WithAsks (tk : List ℕ) (sm fs : List Float) (rs : List ℕ) (ls : List ℤ) (n b used : ℕ) (counts : Bool) (own : List ℕ) (m : ℕ) (ns khs kns : List ℕ) (kxs : List Float) (r : ℕ) (z : Slices) : Type 0 where
@@ -178,38 +178,38 @@ pub record WithAsks (tk : List ℕ) (sm fs : List Float) (rs : List ℕ) (ls : L
   pub margin : Float
   pub stores : StoresAsk tk sm fs rs ls gs n b used true margin
   pub ranked : Ranked
-  pub own-are : ranked.own ≡ m
+  pub own_are : ranked.own ≡ m
   pub heads : List ℕ
-  pub own-listed : OwnListed tk sm fs rs ls b n used counts heads own ranked
+  pub own_listed : OwnListed tk sm fs rs ls b n used counts heads own ranked
   pub listed : ℕ
   pub begins : 0 < listed
-  pub listed-few : listed ≤ 64
+  pub listed_few : listed ≤ 64
   pub hs : List ℕ
   pub xs : List Float
   pub entries : ℕ
   pub nexts : entries * 3 ≤ length ns
   pub most : ℕ
-  pub found : Found tk sm fs rs ls gs b used margin counts listed (boundOf tk sm fs b counts own m listed) heads ranked.all hs ns xs entries khs kns kxs most r
+  pub found : Found tk sm fs rs ls gs b used margin counts listed (bound_of tk sm fs b counts own m listed) heads ranked.all hs ns xs entries khs kns kxs most r
   pub few : r ≤ most
-  pub most-few : most ≤ 0x7fff_fff0
+  pub most_few : most ≤ 0x7fff_fff0
   pub room : Room khs kns kxs most
-  pub keys-long : (n ≤ z.keys) × (most ≤ z.keys)
-  pub places-long : n ≤ z.places
+  pub keys_long : (n ≤ z.keys) × (most ≤ z.keys)
+  pub places_long : n ≤ z.places
   pub gone_long : n ≤ z.gone
-  pub order-long : most ≤ z.order
-  pub first-long : used ≤ z.first-route
-  pub second-long : used ≤ z.second-route
-  pub list-long : n + most ≤ z.list
+  pub order_long : most ≤ z.order
+  pub first_long : used ≤ z.first_route
+  pub second_long : used ≤ z.second_route
+  pub list_long : n + most ≤ z.list
 
 -- in some order that is the list's, what is left of both is merged
 pub record WithIs (tk : List ℕ) (sm fs : List Float) (rs : List ℕ) (ls : List ℤ) (b : ℕ) (counts : Bool) (own : List ℕ) (m : ℕ) (ns khs kns : List ℕ) (kxs : List Float) (r : ℕ) (list : List ℕ) (k : ℕ) : Type 0 where
   pub order : List ℕ
-  pub ordered : OrderIs (keptBefore tk rs ls b ns khs kns kxs) r order
+  pub ordered : OrderIs (kept_before_lem tk rs ls b ns khs kns kxs) r order
   pub room : k ≤ length list
   pub few : k ≤ m + r
-  pub is : take k list ≡ mergedItems (keptFirst tk sm fs b counts khs kns kxs)
-      (ownLeft (sameTest rs ls tk b ns khs kns kxs) (keptFirst tk sm fs b counts khs kns kxs) (take r order) (take m own))
-      (keepIf (keptStands (sameTest rs ls tk b ns khs kns kxs) (keptFirst tk sm fs b counts khs kns kxs) (take m own)) (take r order))
+  pub is : take k list ≡ merged_items (kept_first tk sm fs b counts khs kns kxs)
+      (own_left_lem (same_test rs ls tk b ns khs kns kxs) (kept_first tk sm fs b counts khs kns kxs) (take r order) (take m own))
+      (keep_if (kept_stands (same_test rs ls tk b ns khs kns kxs) (kept_first tk sm fs b counts khs kns kxs) (take m own)) (take r order))
 
 -- ---- the list
 
@@ -217,28 +217,28 @@ pub record WithIs (tk : List ℕ) (sm fs : List Float) (rs : List ℕ) (ls : Lis
 pub record ItemHeld (tk : List ℕ) (b n used : ℕ) (bs : List Below) (khs kns : List ℕ) (kxs : List Float) (i : ℕ) : Type 0 where
   pub own : i < 2_147_483_648 → Held tk b n i
   pub room : (2_147_483_648 ≤ i) → Room khs kns kxs (i - 2_147_483_648 + 1)
-  pub kept : (2_147_483_648 ≤ i) → Held tk b n (keptIn khs kns kxs (i - 2_147_483_648)).state
-  pub entry : (2_147_483_648 ≤ i) → (keptIn khs kns kxs (i - 2_147_483_648)).entry ≤ length bs
-  pub route : (2_147_483_648 ≤ i) → length (stands_for bs (keptIn khs kns kxs (i - 2_147_483_648)).entry).route ≤ used
+  pub kept : (2_147_483_648 ≤ i) → Held tk b n (kept_in_lem khs kns kxs (i - 2_147_483_648)).state
+  pub entry : (2_147_483_648 ≤ i) → (kept_in_lem khs kns kxs (i - 2_147_483_648)).entry ≤ length bs
+  pub route : (2_147_483_648 ≤ i) → length (stands_for bs (kept_in_lem khs kns kxs (i - 2_147_483_648)).entry).route ≤ used
 
 module _ {tk : List ℕ} {sm fs : List Float} {rs : List ℕ} {ls : List ℤ} {gs : List Float} {n b used : ℕ} {keeps : Bool} {margin : Float} (S : Situation tk sm fs rs ls gs n b used keeps margin) where
   -- 15, at these places
-  abbrev pub overfull : (use-final : Bool) → (listed entries kept : ℕ) → Bool
-  overfull use-final listed entries kept = let r = readings S.g S.st use-final listed in over r.belows (some entries) || over r.kepts (some kept)
+  abbrev pub overfull : (use_final : Bool) → (listed entries kept : ℕ) → Bool
+  overfull use_final listed entries kept = let r = readings S.g S.st use_final listed in over r.belows (some entries) || over r.kepts (some kept)
 
   -- the first k items stand for the definition's readings
-  pub record ListIs (counts use-final : Bool) (listed : ℕ) (hs ns : List ℕ) (xs : List Float) (khs kns : List ℕ) (kxs : List Float) (list : List ℕ) (k : ℕ) : Type 0 where
+  pub record ListIs (counts use_final : Bool) (listed : ℕ) (hs ns : List ℕ) (xs : List Float) (khs kns : List ℕ) (kxs : List Float) (list : List ℕ) (k : ℕ) : Type 0 where
     pub bs : List Below
     pub decoded : Decoded S.h used hs ns xs bs
     pub nexts : length bs * 3 ≤ length ns
     pub each : (i : ℕ) → i < k → ItemHeld tk b n used bs khs kns kxs (get_or list i 0)
-    pub are : map (itemGroup S counts bs khs kns kxs) (take k list) ≡ (readings S.g S.st use-final listed).groups
+    pub are : map (item_group S counts bs khs kns kxs) (take k list) ≡ (readings S.g S.st use_final listed).groups
 
 -- a full store, or the items of the definition's readings; whatever state the stores stand for
 pub data ListingIs (tk : List ℕ) (sm fs : List Float) (rs : List ℕ) (ls : List ℤ) (gs : List Float) (n b used : ℕ) (keeps : Bool) (margin : Float) (counts : Bool) (listed entries kept : ℕ)
     (hs ns : List ℕ) (xs : List Float) (khs kns : List ℕ) (kxs : List Float) (list : List ℕ) : Listing → Type 0 where
-  isFull : ((S : Situation tk sm fs rs ls gs n b used keeps margin) (use-final : Bool) → counts ≡ useFinals S.g S.st use-final → overfull S use-final listed entries kept ≡ true)
+  is_full : ((S : Situation tk sm fs rs ls gs n b used keeps margin) (use_final : Bool) → counts ≡ use_finals S.g S.st use_final → overfull S use_final listed entries kept ≡ true)
       → ListingIs tk sm fs rs ls gs n b used keeps margin counts listed entries kept hs ns xs khs kns kxs list Full
-  areItems : (k : ℕ) → k ≤ length list → k ≤ n + kept
-      → ((S : Situation tk sm fs rs ls gs n b used keeps margin) (use-final : Bool) → counts ≡ useFinals S.g S.st use-final → (overfull S use-final listed entries kept ≡ false) × ListIs S counts use-final listed hs ns xs khs kns kxs list k)
+  are_items : (k : ℕ) → k ≤ length list → k ≤ n + kept
+      → ((S : Situation tk sm fs rs ls gs n b used keeps margin) (use_final : Bool) → counts ≡ use_finals S.g S.st use_final → (overfull S use_final listed entries kept ≡ false) × ListIs S counts use_final listed hs ns xs khs kns kxs list k)
       → ListingIs tk sm fs rs ls gs n b used keeps margin counts listed entries kept hs ns xs khs kns kxs list (Items k)

@@ -1,10 +1,10 @@
 // The list of all readings: own groups and kept readings, one of each word list, in the order in which they are listed.
 ghost use Rattle.std.specs.Prelude.{◌≡◌, true, ◌&&◌, ◌≤◌, ◌<◌, ltb, length};
 ghost use Rattle.summaries.specs.Summed.{Keys, Summed};
-ghost use Rattle.merged.specs.Items.{keptFirst};
-ghost use Rattle.listing_laws.specs.Whole.{sameTest};
-ghost use Rattle.places.specs.Places.{entryPlaces, keptPlaces};
-ghost use Rattle.listing.specs.Listed.{scratch, slices, ListingAsks, OwnListAsks, Copied, boundOf, BoundAsks, OwnListed, HeadsListed, FindAsks, FoundIs, WithAsks, WithIs, ListingIs};
+ghost use Rattle.merged.specs.Items.{kept_first};
+ghost use Rattle.listing_laws.specs.Whole.{same_test};
+ghost use Rattle.places.specs.Places.{entry_places, kept_places};
+ghost use Rattle.listing.specs.Listed.{scratch, slices, ListingAsks, OwnListAsks, Copied, bound_of, BoundAsks, OwnListed, HeadsListed, FindAsks, FoundIs, WithAsks, WithIs, ListingIs};
 ghost use Rattle.listing.specs.Finding.{HeadsListAsks};
 ghost use Rattle.listing.specs.Settling.{SettleAsks, Settled};
 
@@ -29,7 +29,7 @@ fn bound_of(
     listed: usize,
 ) -> f32
     requires { BoundAsks tokens.now sums.now finals.now side own.now m listed }
-    ensures { result ≡ boundOf tokens.now sums.now finals.now side counts own.now m listed }
+    ensures { result ≡ bound_of tokens.now sums.now finals.now side counts own.now m listed }
 {
     if m < listed {
         return real32::infinity();
@@ -162,7 +162,7 @@ fn find_kept(
     most: usize,
 ) -> KeptFound
     requires { (FindAsks tokens.now sums.now finals.now records.now labels.now gaps.now states side used counts margin listed heads.old n (length keys.old) (length places.old) (length lists.old) kept_hashes.old kept_links.old kept_sums.old most) × (Summed records.now labels.now used history_keys.now history_skips.now) }
-    ensures { FoundIs tokens.now sums.now finals.now records.now labels.now gaps.now side used margin counts listed bound heads.old n hashes.new nexts.new costs.new (entryPlaces (length hashes.old) (length nexts.old) (length costs.old)) kept_hashes.new kept_links.new kept_sums.new most result }
+    ensures { FoundIs tokens.now sums.now finals.now records.now labels.now gaps.now side used margin counts listed bound heads.old n hashes.new nexts.new costs.new (entry_places (length hashes.old) (length nexts.old) (length costs.old)) kept_hashes.new kept_links.new kept_sums.new most result }
 {
     let m = list_heads(
         tokens,
@@ -261,7 +261,7 @@ fn settle(
     route: &mut [u32],
 ) -> Counts
     requires { (SettleAsks tokens.now sums.now finals.now records.now labels.now side used own.old m (length keys.old) (length places.old) gone.old nexts.now kept_hashes.now kept_links.now kept_sums.now order.old n route.old) × (Keys records.now labels.now used used history_keys.now) }
-    ensures { Settled (sameTest records.now labels.now tokens.now side nexts.now kept_hashes.now kept_links.now kept_sums.now) (keptFirst tokens.now sums.now finals.now side counts kept_hashes.now kept_links.now kept_sums.now) own.old own.new m order.old order.new n result }
+    ensures { Settled (same_test records.now labels.now tokens.now side nexts.now kept_hashes.now kept_links.now kept_sums.now) (kept_first tokens.now sums.now finals.now side counts kept_hashes.now kept_links.now kept_sums.now) own.old own.new m order.old order.new n result }
 {
     groups::fill_keys(
         tokens,
@@ -439,8 +439,8 @@ pub fn list_readings(
     kept_sums: &mut [f32],
     order: &mut [u32],
 ) -> Listing
-    requires { (ListingAsks tokens.now sums.now finals.now records.now labels.now gaps.now states side used keeps margin (keptPlaces (length kept_hashes.old) (length kept_links.old) (length kept_sums.old)) (scratch (length keys.old) (length places.old) (length own.old) (length heads.old) (length list.old) (length lists.old) (length route.old) (length order.old))) × (listed ≤ 64) × (Summed records.now labels.now used history_keys.now history_skips.now) }
-    ensures { ListingIs tokens.now sums.now finals.now records.now labels.now gaps.now states side used keeps margin counts listed (entryPlaces (length hashes.old) (length nexts.old) (length costs.old)) (keptPlaces (length kept_hashes.old) (length kept_links.old) (length kept_sums.old)) hashes.new nexts.new costs.new kept_hashes.new kept_links.new kept_sums.new list.new result }
+    requires { (ListingAsks tokens.now sums.now finals.now records.now labels.now gaps.now states side used keeps margin (kept_places (length kept_hashes.old) (length kept_links.old) (length kept_sums.old)) (scratch (length keys.old) (length places.old) (length own.old) (length heads.old) (length list.old) (length lists.old) (length route.old) (length order.old))) × (listed ≤ 64) × (Summed records.now labels.now used history_keys.now history_skips.now) }
+    ensures { ListingIs tokens.now sums.now finals.now records.now labels.now gaps.now states side used keeps margin counts listed (entry_places (length hashes.old) (length nexts.old) (length costs.old)) (kept_places (length kept_hashes.old) (length kept_links.old) (length kept_sums.old)) hashes.new nexts.new costs.new kept_hashes.new kept_links.new kept_sums.new list.new result }
 {
     let r = list_own(
         tokens,

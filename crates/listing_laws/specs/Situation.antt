@@ -23,7 +23,7 @@ pub record Situation (tk : List ℕ) (sm fs : List Float) (rs : List ℕ) (ls : 
   pub heard : List Heard
   pub st : State
   pub standing : Standing g heard st
-  pub margin-is : st.margin ≡ cond keeps (some margin) none
+  pub margin_is : st.margin ≡ cond keeps (some margin) none
   pub h : ℕ → History
   pub stands : Stands (store rs ls gs) used h
   pub shown : Shown h used tk sm b n st.table

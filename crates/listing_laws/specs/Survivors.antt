@@ -10,32 +10,32 @@ use Rattle.std.specs.Float.Ieee.{eq}
 use Rattle.lists.specs.Tests.{case, either, never, holds, fails, is_true, is_false}
 use Rattle.lists.specs.Lists.{◌∈◌}
 use Rattle.lists.specs.Order.{Sorted}
-use Rattle.lists.specs.Firsts.{firsts-are}
-use Rattle.real32.specs.Order.{lt-asym, lt_not_le, not-lt→le, le_antisym, eq→le}
+use Rattle.lists.specs.Firsts.{firsts_are}
+use Rattle.real32.specs.Order.{lt_asym, lt_not_le, not_lt→le, le_antisym, eq→le}
 use Rattle.model.specs.Basics.{◌≺◌}
 use Rattle.model.specs.Graph.{Graph}
 use Rattle.model.specs.Passes.{State}
-use Rattle.model.specs.Reads.{Ranked, sooner, ranked, Group, ownGroup, grouped}
-use Rattle.model.specs.Readings.{isOwn, wordsLt, readOrder}
+use Rattle.model.specs.Reads.{Ranked, sooner, ranked, Group, own_group, grouped}
+use Rattle.model.specs.Readings.{is_own, words_lt, read_order}
 use Rattle.model.specs.Checked.{GoodGraph}
 use Rattle.copy_laws.specs.Walks.{Heard}
 use Rattle.copy_laws.specs.Sums.{Floats32}
 use Rattle.copy_laws.specs.Active.{Active}
-use Rattle.copy_laws.specs.Minima.{not_itself, sublist-sorted}
-use Rattle.copy_laws.specs.Sooner.{has-rank, one_entry, ranked-sorted}
-use Rattle.copy_laws.specs.Distinct.{sameOf}
+use Rattle.copy_laws.specs.Minima.{not_itself, sublist_sorted}
+use Rattle.copy_laws.specs.Sooner.{has_rank, one_entry, ranked_sorted}
+use Rattle.copy_laws.specs.Distinct.{same_of}
 use Rattle.listing_laws.specs.Alike.{sorted-map}
-use Rattle.listing_laws.specs.Ordering.{HasRank, order-strict}
-use Rattle.listing_laws.specs.Known.{keptIn, keptGroups, Known, own-is-own, kept-not-own, own-has-rank, listed-has-rank}
+use Rattle.listing_laws.specs.Ordering.{HasRank, order_strict}
+use Rattle.listing_laws.specs.Known.{kept_in_lem, kept_groups, Known, own_is_own, kept_not_own, own_has_rank, listed_has_rank}
 use Rattle.listing_laws.specs.Total.{words_of}
 
 -- ---- a survivor x and a kept reading y
 
-module _ (x y : Group) (own : isOwn x ≡ true) (kept : isOwn y ≡ false) where
+module _ (x y : Group) (own : is_own x ≡ true) (kept : is_own y ≡ false) where
   -- the kept reading comes first where it ranks lower
-  kept-first : readOrder y x ≡ (y.rank ≺ x.rank)
-  unfolding readOrder
-  kept-first = go (y.rank ≺ x.rank) (eq y.rank x.rank) (isOwn y) (isOwn x) kept own _
+  kept_first_lem : read_order y x ≡ (y.rank ≺ x.rank)
+  unfolding read_order
+  kept_first_lem = go (y.rank ≺ x.rank) (eq y.rank x.rank) (is_own y) (is_own x) kept own _
     where
       go : (a b c d : Bool) → c ≡ false → d ≡ true → (s : Bool) → (a || (b && ((c && not d) || (not (not c && d) && s)))) ≡ a
       go true b c d p q s = refl
@@ -45,9 +45,9 @@ module _ (x y : Group) (own : isOwn x ≡ true) (kept : isOwn y ≡ false) where
       go false false false true p q s = refl
 
   -- else the survivor
-  own_first : HasRank x → HasRank y → readOrder x y ≡ not (y.rank ≺ x.rank)
-  unfolding readOrder
-  own_first rx ry = go (x.rank ≺ y.rank) (eq x.rank y.rank) (isOwn x) (isOwn y) own kept _ ∙ ranks
+  own_first_lem : HasRank x → HasRank y → read_order x y ≡ not (y.rank ≺ x.rank)
+  unfolding read_order
+  own_first_lem rx ry = go (x.rank ≺ y.rank) (eq x.rank y.rank) (is_own x) (is_own y) own kept _ ∙ ranks
     where
       go : (a b c d : Bool) → c ≡ true → d ≡ false → (s : Bool) → (a || (b && ((c && not d) || (not (not c && d) && s)))) ≡ (a || b)
       go true b c d p q s = refl
@@ -60,33 +60,33 @@ module _ (x y : Group) (own : isOwn x ≡ true) (kept : isOwn y ≡ false) where
       ranks =
           case (either (y.rank ≺ x.rank))
           (λ t.
-          let a : (x.rank ≺ y.rank) ≡ false = is_false (λ u. lt-asym y.rank x.rank (holds t) u) in
+          let a : (x.rank ≺ y.rank) ≡ false = is_false (λ u. lt_asym y.rank x.rank (holds t) u) in
           let b : eq x.rank y.rank ≡ false = is_false (λ u. lt_not_le y.rank x.rank (holds t) (eq→le x.rank y.rank u)) in
           rw (a, b, t))
           (λ t.
           case (either (x.rank ≺ y.rank)) (λ a. rw (a, t))
-          (λ a. let b : eq x.rank y.rank ≡ true = is_true (le_antisym x.rank y.rank (not-lt→le y.rank x.rank ry rx (fails t)) (not-lt→le x.rank y.rank rx ry (fails a))) in rw (a, b, t)))
+          (λ a. let b : eq x.rank y.rank ≡ true = is_true (le_antisym x.rank y.rank (not_lt→le y.rank x.rank ry rx (fails t)) (not_lt→le x.rank y.rank rx ry (fails a))) in rw (a, b, t)))
 
 module _ {g : Graph} {fs : List Heard} {st : State} {f : Bool} {margin bound : Float} {cap : ℕ} (known : Known g fs st f margin bound cap) where
   -- so it is between any two of the lists
-  pub beaten-by-rank : (x y : Group) → x ∈ grouped g st f → y ∈ keptGroups (keptIn g st f margin bound cap) → (readOrder y x ≡ (y.rank ≺ x.rank)) × (readOrder x y ≡ not (y.rank ≺ x.rank))
-  beaten-by-rank x y m n =
-      let own = own-is-own g st f x m in
-      let kept = kept-not-own known y n in
+  pub beaten_by_rank : (x y : Group) → x ∈ grouped g st f → y ∈ kept_groups (kept_in_lem g st f margin bound cap) → (read_order y x ≡ (y.rank ≺ x.rank)) × (read_order x y ≡ not (y.rank ≺ x.rank))
+  beaten_by_rank x y m n =
+      let own = own_is_own g st f x m in
+      let kept = kept_not_own known y n in
       let all = grouped g st f in
-      (kept-first x y own kept, own_first x y own kept (own-has-rank known x m) (listed-has-rank known y (Memᴰ.append_right all n)))
+      (kept_first_lem x y own kept, own_first_lem x y own kept (own_has_rank known x m) (listed_has_rank known y (Memᴰ.append_right all n)))
 
 -- ---- the survivors among themselves
 
 module _ (g : Graph) (good : GoodGraph g) (floats : Floats32 g) (fs : List Heard) (st : State) (active : Active g fs st.table st.seq st.fresh) (f : Bool) where
-  own-later : (r q : Ranked) → r ∈ ranked g st f → q ∈ ranked g st f → sooner r q ≡ false → readOrder (ownGroup r) (ownGroup q) ≡ false
-  unfolding readOrder
-  own-later r q m n e = case (either (eqb r.token.seq q.token.seq)) same differ
+  own_later : (r q : Ranked) → r ∈ ranked g st f → q ∈ ranked g st f → sooner r q ≡ false → read_order (own_group r) (own_group q) ≡ false
+  unfolding read_order
+  own_later r q m n e = case (either (eqb r.token.seq q.token.seq)) same differ
     where
-      same : eqb r.token.seq q.token.seq ≡ true → readOrder (ownGroup r) (ownGroup q) ≡ false
+      same : eqb r.token.seq q.token.seq ≡ true → read_order (own_group r) (own_group q) ≡ false
       same t =
           let z = one_entry g good floats fs st active f r q m n (eqb-true r.token.seq q.token.seq t) in
-          ap (λ (y : Ranked). readOrder (ownGroup r) (ownGroup y)) (sym z) ∙ not_itself HasRank readOrder order-strict (ownGroup r) (has-rank g good floats fs st active f r m)
+          ap (λ (y : Ranked). read_order (own_group r) (own_group y)) (sym z) ∙ not_itself HasRank read_order order_strict (own_group r) (has_rank g good floats fs st active f r m)
 
       go : (a b c d s : Bool) → (a || (b && c)) ≡ false → d ≡ false → (a || (b && (c || (d && s)))) ≡ false
       go true b c d s p u = p
@@ -95,12 +95,12 @@ module _ (g : Graph) (good : GoodGraph g) (floats : Floats32 g) (fs : List Heard
       go false true false false s p u = refl
       go false false c d s p u = refl
 
-      differ : eqb r.token.seq q.token.seq ≡ false → readOrder (ownGroup r) (ownGroup q) ≡ false
-      differ t = go (r.rank ≺ q.rank) (eq r.rank q.rank) (ltb q.token.seq r.token.seq) (eqb r.token.seq q.token.seq) (wordsLt (ownGroup r).words (ownGroup q).words) e t
+      differ : eqb r.token.seq q.token.seq ≡ false → read_order (own_group r) (own_group q) ≡ false
+      differ t = go (r.rank ≺ q.rank) (eq r.rank q.rank) (ltb q.token.seq r.token.seq) (eqb r.token.seq q.token.seq) (words_lt (own_group r).words (own_group q).words) e t
 
   -- sorted by rank and seq they are sorted as readings
-  pub sorted-own : Sorted readOrder (grouped g st f)
+  pub sorted_own : Sorted read_order (grouped g st f)
   unfolding grouped
-  sorted-own =
+  sorted_own =
       let rs = ranked g st f in
-      sublist-sorted readOrder (grouped g st f) (map ownGroup rs) (firsts-are (sameOf words_of) [] (map ownGroup rs)).in_order (sorted-map sooner readOrder ownGroup rs own-later (ranked-sorted g good floats fs st active f))
+      sublist_sorted read_order (grouped g st f) (map own_group rs) (firsts_are (same_of words_of) [] (map own_group rs)).in_order (sorted-map sooner read_order own_group rs own_later (ranked_sorted g good floats fs st active f))

@@ -53,27 +53,27 @@ module _ {A : Type 0} where
       let r = count-append p xs ys in
       case (either (p x)) (λ e. omega (arith, count_yes p x (xs ++ ys) e, count_yes p x xs e)) (λ e. omega (arith, count_no p x (xs ++ ys) e, count_no p x xs e))
 
-  pub count-split : (p : A → Bool) (xs : List A) → count p xs + count (λ x. not (p x)) xs ≡ length xs
-  count-split p [] = refl
-  count-split p (x ∷ xs) =
+  pub count_split : (p : A → Bool) (xs : List A) → count p xs + count (λ x. not (p x)) xs ≡ length xs
+  count_split p [] = refl
+  count_split p (x ∷ xs) =
       let q : A → Bool = λ y. not (p y) in
-      let r = count-split p xs in
+      let r = count_split p xs in
       case (either (p x)) (λ e. omega (arith, count_yes p x xs e, count_no q x xs (ap not e))) (λ e. omega (arith, count_no p x xs e, count_yes q x xs (ap not e)))
 
-  pub count-le : (p : A → Bool) (xs : List A) → count p xs ≤ length xs
-  count-le p xs = omega (arith, count-split p xs)
+  pub count_le : (p : A → Bool) (xs : List A) → count p xs ≤ length xs
+  count_le p xs = omega (arith, count_split p xs)
 
   -- a weaker test passes at least as often
-  pub count-mono : (p q : A → Bool) (xs : List A) → ((x : A) → x ∈ xs → p x ≡ true → q x ≡ true) → count p xs ≤ count q xs
-  count-mono p q [] f = omega arith
-  count-mono p q (x ∷ xs) f =
-      let r = count-mono p q xs (λ y m. f y (there m)) in
+  pub count_mono : (p q : A → Bool) (xs : List A) → ((x : A) → x ∈ xs → p x ≡ true → q x ≡ true) → count p xs ≤ count q xs
+  count_mono p q [] f = omega arith
+  count_mono p q (x ∷ xs) f =
+      let r = count_mono p q xs (λ y m. f y (there m)) in
       case (either (p x)) (λ e. omega (arith, count_yes p x xs e, count_yes q x xs (f x (here refl) e)))
       (λ e. case (either (q x)) (λ g. omega (arith, count_no p x xs e, count_yes q x xs g)) (λ g. omega (arith, count_no p x xs e, count_no q x xs g)))
 
-  pub count-all : (p : A → Bool) (xs : List A) → ((x : A) → x ∈ xs → p x ≡ true) → count p xs ≡ length xs
-  count-all p [] f = refl
-  count-all p (x ∷ xs) f = count_yes p x xs (f x (here refl)) ∙ ap suc (count-all p xs (λ y m. f y (there m)))
+  pub count_all : (p : A → Bool) (xs : List A) → ((x : A) → x ∈ xs → p x ≡ true) → count p xs ≡ length xs
+  count_all p [] f = refl
+  count_all p (x ∷ xs) f = count_yes p x xs (f x (here refl)) ∙ ap suc (count_all p xs (λ y m. f y (there m)))
 
   pub count_none : (p : A → Bool) (xs : List A) → ((x : A) → x ∈ xs → p x ≡ false) → count p xs ≡ 0
   count_none p [] f = refl

@@ -6,7 +6,7 @@ use mathlib.Core.List.Memᴰ.{tail as there}
 use mathlib.Core.List.{List, [], ◌∷◌, Sublistᴰ}
 use Rattle.lists.specs.Tests.{case}
 use Rattle.lists.specs.Lists.{◌∈◌, any, firsts}
-use Rattle.lists.specs.Members.{any-no, any_some}
+use Rattle.lists.specs.Members.{any_no, any_some}
 
 module _ {A : Type 0} (same : A → A → Bool) where
   -- no element is the same as one in front of it
@@ -26,11 +26,11 @@ module _ {A : Type 0} (same : A → A → Bool) where
     pub unseen : (y : A) → y ∈ ys → (s : A) → s ∈ seen → same y s ≡ false
     pub each : (x : A) → x ∈ xs → Like x seen ⊎ Like x ys
 
-  like-more : (x y : A) (ys : List A) → Like x ys → Like x (y ∷ ys)
-  like-more x y ys l = record { one = l.one; in_list = there l.in_list; like = l.like }
+  like_more : (x y : A) (ys : List A) → Like x ys → Like x (y ∷ ys)
+  like_more x y ys l = record { one = l.one; in_list = there l.in_list; like = l.like }
 
-  like-self : (x : A) (xs : List A) → x ∈ xs → Like x xs
-  like-self x xs m = record { one = x; in_list = m; like = inl refl }
+  like_self : (x : A) (xs : List A) → x ∈ xs → Like x xs
+  like_self x xs m = record { one = x; in_list = m; like = inl refl }
 
   -- x was seen
   passed_over : (x : A) (seen xs : List A) → any (same x) seen ≡ true → (ys : List A) → Firsts seen xs ys → Firsts seen (x ∷ xs) ys
@@ -45,7 +45,7 @@ module _ {A : Type 0} (same : A → A → Bool) where
   put_first x seen xs e ys f = record { in_order = Sublistᴰ.cons-cons refl f.in_order; apart = (λ y m. f.unseen y m x (here refl), f.apart); unseen = unseen_of; each = each_of }
     where
       unseen_of : (y : A) → y ∈ (x ∷ ys) → (s : A) → s ∈ seen → same y s ≡ false
-      unseen_of y (here q) s m = ap (λ (w : A). same w s) q ∙ any-no (same x) seen e s m
+      unseen_of y (here q) s m = ap (λ (w : A). same w s) q ∙ any_no (same x) seen e s m
       unseen_of y (there k) s m = f.unseen y k s (there m)
 
       older : (z o : A) → o ∈ (x ∷ seen) → (z ≡ o) ⊎ (same z o ≡ true) → Like z seen ⊎ Like z (x ∷ ys)
@@ -53,12 +53,12 @@ module _ {A : Type 0} (same : A → A → Bool) where
       older z o (there m) l = inl (record { one = o; in_list = m; like = l })
 
       each_of : (z : A) → z ∈ (x ∷ xs) → Like z seen ⊎ Like z (x ∷ ys)
-      each_of z (here q) = inr (like-self z (x ∷ ys) (here q))
-      each_of z (there m) = case (f.each z m) (λ l. older z l.one l.in_list l.like) (λ l. inr (like-more z x ys l))
+      each_of z (here q) = inr (like_self z (x ∷ ys) (here q))
+      each_of z (there m) = case (f.each z m) (λ l. older z l.one l.in_list l.like) (λ l. inr (like_more z x ys l))
 
-  pub firsts-are : (seen xs : List A) → Firsts seen xs (firsts same seen xs)
-  firsts-are seen [] = record { in_order = Sublistᴰ.slnil; apart = tt; unseen = λ y m. elim m [ ]; each = λ x m. elim m [ ] }
-  firsts-are seen (x ∷ xs) = go (any (same x) seen) refl (firsts-are seen xs) (firsts-are (x ∷ seen) xs)
+  pub firsts_are : (seen xs : List A) → Firsts seen xs (firsts same seen xs)
+  firsts_are seen [] = record { in_order = Sublistᴰ.slnil; apart = tt; unseen = λ y m. elim m [ ]; each = λ x m. elim m [ ] }
+  firsts_are seen (x ∷ xs) = go (any (same x) seen) refl (firsts_are seen xs) (firsts_are (x ∷ seen) xs)
     where
       go : (b : Bool) → any (same x) seen ≡ b → Firsts seen xs (firsts same seen xs) → Firsts (x ∷ seen) xs (firsts same (x ∷ seen) xs)
           → Firsts seen (x ∷ xs) (elim b as (λ c. List A) [ true ↦ firsts same seen xs | false ↦ x ∷ firsts same (x ∷ seen) xs ])

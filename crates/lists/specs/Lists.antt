@@ -15,23 +15,23 @@ module _ {ℓ} {A : Type ℓ} where
   all p [] = true
   all p (x ∷ xs) = p x && all p xs
 
-  abbrev pub keepIf : (A → Bool) → List A → List A
-  keepIf p [] = []
-  keepIf p (x ∷ xs) = let r = keepIf p xs in cond (p x) (x ∷ r) r
+  abbrev pub keep_if : (A → Bool) → List A → List A
+  keep_if p [] = []
+  keep_if p (x ∷ xs) = let r = keep_if p xs in cond (p x) (x ∷ r) r
 
   -- how many pass a test
   abbrev pub count : (A → Bool) → List A → ℕ
-  count p xs = length (keepIf p xs)
+  count p xs = length (keep_if p xs)
 
   -- x into a sorted list: behind those that stand strictly before it
-  abbrev pub insertBy : (A → A → Bool) → A → List A → List A
-  insertBy before x [] = x ∷ []
-  insertBy before x (y ∷ ys) = cond (before y x) (y ∷ insertBy before x ys) (x ∷ y ∷ ys)
+  abbrev pub insert_by : (A → A → Bool) → A → List A → List A
+  insert_by before x [] = x ∷ []
+  insert_by before x (y ∷ ys) = cond (before y x) (y ∷ insert_by before x ys) (x ∷ y ∷ ys)
 
   -- sorted by a strict order, and stable: of two equals the one that stood first stays first
-  abbrev pub sortBy : (A → A → Bool) → List A → List A
-  sortBy before [] = []
-  sortBy before (x ∷ xs) = insertBy before x (sortBy before xs)
+  abbrev pub sort_by : (A → A → Bool) → List A → List A
+  sort_by before [] = []
+  sort_by before (x ∷ xs) = insert_by before x (sort_by before xs)
 
   -- of each class the first: `seen` are the ones before
   abbrev pub firsts : (A → A → Bool) → List A → List A → List A

@@ -12,19 +12,19 @@ pub either : (b : Bool) → (b ≡ true) ⊎ (b ≡ false)
 either true = inl refl
 either false = inr refl
 
-pub lt-or-le : (a b : ℕ) → (a < b) ⊎ (b ≤ a)
-lt-or-le a b = go (ltb a b) (ltb→lt a b) (nltb→le a b)
+pub lt_or_le : (a b : ℕ) → (a < b) ⊎ (b ≤ a)
+lt_or_le a b = go (ltb a b) (ltb→lt a b) (nltb→le a b)
   where
     go : (t : Bool) → (T t → a < b) → (T (not t) → b ≤ a) → (a < b) ⊎ (b ≤ a)
     go true h k = inl (h tt)
     go false h k = inr (k tt)
 
-pub eq-or-not : (a b : ℕ) → (a ≡ b) ⊎ (a ≡ b → ⊥)
-eq-or-not a b = case (lt-or-le a b) (λ h. inr (λ e. omega arith)) (λ h. case (lt-or-le b a) (λ k. inr (λ e. omega arith)) (λ k. inl (omega arith)))
+pub eq_or_not : (a b : ℕ) → (a ≡ b) ⊎ (a ≡ b → ⊥)
+eq_or_not a b = case (lt_or_le a b) (λ h. inr (λ e. omega arith)) (λ h. case (lt_or_le b a) (λ k. inr (λ e. omega arith)) (λ k. inl (omega arith)))
 
 -- what holds below n and at n holds below n + 1
 pub below_more : (P : ℕ → Type 0) (n : ℕ) → ((k : ℕ) → k < n → P k) → P n → (k : ℕ) → k < n + 1 → P k
-below_more P n f p k h = case (lt-or-le k n) (f k) (λ l. subst P (omega arith) p)
+below_more P n f p k h = case (lt_or_le k n) (f k) (λ l. subst P (omega arith) p)
 
 -- a counter below a length can be counted up
 pub next_fits : (i l n : ℕ) → i < l → l < n → i + 1 < n
@@ -76,9 +76,9 @@ pub or_r : (a b : Bool) → T b → T (a || b)
 or_r true b t = tt
 or_r false b t = t
 
-pub or-neither : (a b : Bool) → (a || b) ≡ false → (a ≡ false) × (b ≡ false)
-or-neither true b e = never (sym e)
-or-neither false b e = (refl, e)
+pub or_neither : (a b : Bool) → (a || b) ≡ false → (a ≡ false) × (b ≡ false)
+or_neither true b e = never (sym e)
+or_neither false b e = (refl, e)
 
 pub and_both : (a b : Bool) → (a && b) ≡ true → (a ≡ true) × (b ≡ true)
 and_both true b e = (refl, e)

@@ -29,8 +29,8 @@ pub record LowerBound (ks : List ℕ) (n x r : ℕ) : Type 0 where
   pub above : (i : ℕ) → r ≤ i → i < n → x ≤ get_or ks i 0
 
 module _ {ks : List ℕ} {n x a b : ℕ} (s : Ascends ks n) (B : Bounds ks n x a b) (c : ℕ) (l : a ≤ c) (u : c < b) where
-  pub half-above : get_or ks c 0 < x → Bounds ks n x (c + 1) b
-  half-above e = record { order = omega arith; low = B.low; below = λ i k. let z = s.sorted i c (omega arith) (let y = B.low in omega arith) in omega arith; above = B.above }
+  pub half_above : get_or ks c 0 < x → Bounds ks n x (c + 1) b
+  half_above e = record { order = omega arith; low = B.low; below = λ i k. let z = s.sorted i c (omega arith) (let y = B.low in omega arith) in omega arith; above = B.above }
 
-  pub half-below : x ≤ get_or ks c 0 → Bounds ks n x a c
-  half-below e = record { order = l; low = let y = B.low in omega arith; below = B.below; above = λ i k v. let z = s.sorted c i k v in omega arith }
+  pub half_below : x ≤ get_or ks c 0 → Bounds ks n x a c
+  half_below e = record { order = l; low = let y = B.low in omega arith; below = B.below; above = λ i k v. let z = s.sorted c i k v in omega arith }

@@ -12,10 +12,10 @@ use Rattle.lists.specs.Tests.{case}
 use Rattle.lists.specs.Lists.{◌∈◌}
 use Rattle.real32.specs.Small.{tame}
 use Rattle.model.specs.Basics.{◌≺◌, ◌≼◌, ◌⊕◌, ◌⊖◌, over, Outcome, ◌>>=◌, check}
-use Rattle.model.specs.Graph.{Arc, hasEps}
-use Rattle.model.specs.Path.{Path, Token, isLink, memℕ}
-use Rattle.model.specs.Arrive.{Pass, emitting, nonemitting, takes, total, lower, Here, Work, Meets, cutOff, vacant, better, notBetter, against, meets, stepOn, arriving, joined, keeps, keep, inHand, checkWinner, Change, arcCut, tokenStays, tokenWins, tokenJoins, or_else, joinsOrStays, fills, beats, loses, settle, passed, put, push, pushWinner, pushJoined, finish, place_of, arrive, arriveAll}
-use Rattle.model.specs.Accepted.{Ok, then, after, branches, weaken, checked-so}
+use Rattle.model.specs.Graph.{Arc, has_eps}
+use Rattle.model.specs.Path.{Path, Token, is_link, memℕ}
+use Rattle.model.specs.Arrive.{Pass, emitting, nonemitting, takes, total, lower, Here, Work, Meets, cut_off_lem, vacant, better, not_better, against, meets, step_on, arriving, joined, keeps, keep, in_hand_lem, check_winner, Change, arc_cut, token_stays, token_wins, token_joins, or_else, joins_or_stays, fills, beats, loses, settle, passed, put, push, push_winner, push_joined, finish, place_of, arrive, arrive_all}
+use Rattle.model.specs.Accepted.{Ok, then, after, branches, weaken, checked_so}
 
 -- ---- the five cases
 
@@ -47,14 +47,14 @@ pub record Passing (h : Here) (p : Pass) (t : Token) (a : Arc) (w v : Work) : Ty
 
 -- cut off; into an empty state; better; not better and dropped; not better and joined
 pub data Came (h : Here) (p : Pass) (t : Token) (a : Arc) (w v : Work) : Type 0 where
-  cameCut : (w.cutoff ≼ total h.graph p t a) ≡ true → v ≡ w → Came h p t a w v
-  cameVacant : Passing h p t a w v → place_of w a ≡ none → tame (t.graph ⊕ a.weight) ≡ true → v.table ≡ set w.table a.target (some (arriving h p t a w.fresh (suc w.seq) false))
+  came_cut : (w.cutoff ≼ total h.graph p t a) ≡ true → v ≡ w → Came h p t a w v
+  came_vacant : Passing h p t a w v → place_of w a ≡ none → tame (t.graph ⊕ a.weight) ≡ true → v.table ≡ set w.table a.target (some (arriving h p t a w.fresh (suc w.seq) false))
       → v.seq ≡ suc w.seq → Pushed p a.target w.queue v.queue → Came h p t a w v
-  cameBetter : Passing h p t a w v → (held : Token) → place_of w a ≡ some held → (total h.graph p t a ≺ held.cost) ≡ true → tame (t.graph ⊕ a.weight) ≡ true → (u : Token)
+  came_better : Passing h p t a w v → (held : Token) → place_of w a ≡ some held → (total h.graph p t a ≺ held.cost) ≡ true → tame (t.graph ⊕ a.weight) ≡ true → (u : Token)
       → WithLoser h (suc w.fresh) (arriving h p t a w.fresh held.seq false) held u → v.table ≡ set w.table a.target (some u) → v.seq ≡ w.seq
       → Pushed p a.target w.queue v.queue → Came h p t a w v
-  cameDropped : Passing h p t a w v → (held : Token) → place_of w a ≡ some held → (total h.graph p t a ≺ held.cost) ≡ false → v.table ≡ w.table → v.seq ≡ w.seq → v.queue ≡ w.queue → Came h p t a w v
-  cameJoined : Passing h p t a w v → (held : Token) → place_of w a ≡ some held → (total h.graph p t a ≺ held.cost) ≡ false
+  came_dropped : Passing h p t a w v → (held : Token) → place_of w a ≡ some held → (total h.graph p t a ≺ held.cost) ≡ false → v.table ≡ w.table → v.seq ≡ w.seq → v.queue ≡ w.queue → Came h p t a w v
+  came_joined : Passing h p t a w v → (held : Token) → place_of w a ≡ some held → (total h.graph p t a ≺ held.cost) ≡ false
       → v.table ≡ set w.table a.target (some (joined h (suc w.fresh) held (arriving h p t a w.fresh 0 true))) → v.seq ≡ w.seq → More w.queue v.queue → Came h p t a w v
 
 -- ---- the push changes the queue alone
@@ -69,25 +69,25 @@ pub record Queued (Q : List ℕ → List ℕ → Type 0) (u v : Work) : Type 0 w
 same_queue : (Q : List ℕ → List ℕ → Type 0) (u : Work) → Q u.queue u.queue → Queued Q u u
 same_queue Q u q = record { table = refl; seq = refl; cutoff = refl; fresh = refl; queue = q }
 
-pub push-queued : (h : Here) (s : ℕ) (re : List ℕ) (u : Work) → Ok (Queued (λ q r. r ≡ s ∷ q) u) (push h s re u)
+pub push_queued : (h : Here) (s : ℕ) (re : List ℕ) (u : Work) → Ok (Queued (λ q r. r ≡ s ∷ q) u) (push h s re u)
 unfolding push
-push-queued h s re u =
+push_queued h s re u =
     branches (Queued (λ q r. r ≡ s ∷ q) u) (over (suc (length u.queue)) h.limits.queue) _ _ (λ e. tt) (λ e. record { table = refl; seq = refl; cutoff = refl; fresh = refl; queue = refl })
 
 abbrev QueuedIn : Pass → (List ℕ → List ℕ → Type 0) → Work → Work → Type 0
 QueuedIn p Q u v = Queued Q u v × Still p u v
 
-winner-queued : (h : Here) (p : Pass) (s : ℕ) (u : Work) → Ok (QueuedIn p (Pushed p s) u) (pushWinner h p s u)
-winner-queued h (emitting ls off ad) s u = (same_queue (λ q r. r ≡ q) u refl, (refl, refl))
-winner-queued h nonemitting s u =
-    weaken (Queued (λ q r. r ≡ s ∷ q) u) (QueuedIn nonemitting (Pushed nonemitting s) u) (push h s u.requeued u) (λ v g. (g, tt)) (push-queued h s u.requeued u)
+winner_queued : (h : Here) (p : Pass) (s : ℕ) (u : Work) → Ok (QueuedIn p (Pushed p s) u) (push_winner h p s u)
+winner_queued h (emitting ls off ad) s u = (same_queue (λ q r. r ≡ q) u refl, (refl, refl))
+winner_queued h nonemitting s u =
+    weaken (Queued (λ q r. r ≡ s ∷ q) u) (QueuedIn nonemitting (Pushed nonemitting s) u) (push h s u.requeued u) (λ v g. (g, tt)) (push_queued h s u.requeued u)
 
-joined-queued : (h : Here) (p : Pass) (s : ℕ) (u : Work) → Ok (QueuedIn p More u) (pushJoined h p s u)
-joined-queued h (emitting ls off ad) s u = (same_queue More u (λ x m. m), (refl, refl))
-joined-queued h nonemitting s u =
-    branches (QueuedIn nonemitting More u) (hasEps h.graph s && not (memℕ s u.requeued)) _ _
+joined_queued : (h : Here) (p : Pass) (s : ℕ) (u : Work) → Ok (QueuedIn p More u) (push_joined h p s u)
+joined_queued h (emitting ls off ad) s u = (same_queue More u (λ x m. m), (refl, refl))
+joined_queued h nonemitting s u =
+    branches (QueuedIn nonemitting More u) (has_eps h.graph s && not (memℕ s u.requeued)) _ _
     (λ e. weaken (Queued (λ q r. r ≡ s ∷ q) u) (QueuedIn nonemitting More u) (push h s (s ∷ u.requeued) u)
-    (λ v g. (record { table = g.table; seq = g.seq; cutoff = g.cutoff; fresh = g.fresh; queue = λ x m. subst (λ (l : List ℕ). x ∈ l) (sym g.queue) (there m) }, tt)) (push-queued h s (s ∷ u.requeued) u))
+    (λ v g. (record { table = g.table; seq = g.seq; cutoff = g.cutoff; fresh = g.fresh; queue = λ x m. subst (λ (l : List ℕ). x ∈ l) (sym g.queue) (there m) }, tt)) (push_queued h s (s ∷ u.requeued) u))
     (λ e. (same_queue More u (λ x m. m), tt))
 
 -- ---- what `settle` gives
@@ -96,18 +96,18 @@ abbrev KeptAs : Here → ℕ → (won lost : Token) → Option Token → Type 0
 KeptAs h k won lost none = Unit {0}
 KeptAs h k won lost (some j) = j ≡ joined h k won lost
 
-keep-kept : (h : Here) (hand : List Path) (n : ℕ) (gap : Float) (won lost : Token) → Ok (KeptAs h n won lost) (keep h hand n gap won lost)
+keep_kept : (h : Here) (hand : List Path) (n : ℕ) (gap : Float) (won lost : Token) → Ok (KeptAs h n won lost) (keep h hand n gap won lost)
 unfolding keep
-keep-kept h hand n gap won lost =
+keep_kept h hand n gap won lost =
     branches (KeptAs h n won lost) (keeps h.margin gap won lost) _ _ (λ e. branches (KeptAs h n won lost) (h.limits.full hand) _ _ (λ f. tt) (λ f. refl)) (λ e. tt)
 
-with-loser : (h : Here) (k : ℕ) (won lost : Token) (j : Option Token) → KeptAs h k won lost j → WithLoser h k won lost (or_else won j)
-with-loser h k won lost none q = inl refl
-with-loser h k won lost (some j) q = inr q
+with_loser : (h : Here) (k : ℕ) (won lost : Token) (j : Option Token) → KeptAs h k won lost j → WithLoser h k won lost (or_else won j)
+with_loser h k won lost none q = inl refl
+with_loser h k won lost (some j) q = inr q
 
-stays-or-joins : (h : Here) (k : ℕ) (won lost : Token) (j : Option Token) → KeptAs h k won lost j → (joinsOrStays j ≡ tokenStays) ⊎ (joinsOrStays j ≡ tokenJoins (joined h k won lost))
-stays-or-joins h k won lost none q = inl refl
-stays-or-joins h k won lost (some j) q = inr (ap tokenJoins q)
+stays_or_joins : (h : Here) (k : ℕ) (won lost : Token) (j : Option Token) → KeptAs h k won lost j → (joins_or_stays j ≡ token_stays) ⊎ (joins_or_stays j ≡ token_joins (joined h k won lost))
+stays_or_joins h k won lost none q = inl refl
+stays_or_joins h k won lost (some j) q = inr (ap token_joins q)
 
 module _ (h : Here) (p : Pass) (t : Token) (a : Arc) (w : Work) where
   abbrev pub Sum : Type 0
@@ -116,9 +116,9 @@ module _ (h : Here) (p : Pass) (t : Token) (a : Arc) (w : Work) where
   abbrev pub Small : Type 0
   Small = tame (total h.graph p t a) ≡ true
 
-  winner-checked : Ok (λ u. Sum) (checkWinner h w p t a)
-  unfolding checkWinner
-  winner-checked = both (tame (t.graph ⊕ a.weight)) (not (isLink (stepOn h p t a 0 false) && h.limits.full (inHand h w t.path)))
+  winner_checked : Ok (λ u. Sum) (check_winner h w p t a)
+  unfolding check_winner
+  winner_checked = both (tame (t.graph ⊕ a.weight)) (not (is_link (step_on h p t a 0 false) && h.limits.full (in_hand_lem h w t.path)))
     where
       both : (b c : Bool) → Ok (λ u. b ≡ true) (check 12 b >>= λ u. check 13 c)
       both true true = refl
@@ -126,30 +126,30 @@ module _ (h : Here) (p : Pass) (t : Token) (a : Arc) (w : Work) where
       both false c = tt
 
   abbrev pub SettledBy : Meets → Change → Type 0
-  SettledBy cutOff c = c ≡ arcCut
-  SettledBy vacant c = Small × Sum × (c ≡ tokenWins (arriving h p t a w.fresh (suc w.seq) false) (suc w.seq))
+  SettledBy cut_off_lem c = c ≡ arc_cut
+  SettledBy vacant c = Small × Sum × (c ≡ token_wins (arriving h p t a w.fresh (suc w.seq) false) (suc w.seq))
   SettledBy (better gap held) c =
-      Small × Sum × ((u : Token) × WithLoser h (suc w.fresh) (arriving h p t a w.fresh held.seq false) held u × (c ≡ tokenWins u w.seq))
-  SettledBy (notBetter gap held) c =
-      Small × ((c ≡ tokenStays) ⊎ (c ≡ tokenJoins (joined h (suc w.fresh) held (arriving h p t a w.fresh 0 true))))
+      Small × Sum × ((u : Token) × WithLoser h (suc w.fresh) (arriving h p t a w.fresh held.seq false) held u × (c ≡ token_wins u w.seq))
+  SettledBy (not_better gap held) c =
+      Small × ((c ≡ token_stays) ⊎ (c ≡ token_joins (joined h (suc w.fresh) held (arriving h p t a w.fresh 0 true))))
 
-  pub settle-settled : (m : Meets) → Ok (SettledBy m) (settle h p t a w m)
+  pub settle_settled : (m : Meets) → Ok (SettledBy m) (settle h p t a w m)
   unfolding settle fills beats loses
-  settle-settled cutOff = refl
-  settle-settled vacant =
-      then (λ u. Small) (SettledBy vacant) (check 12 (tame (total h.graph p t a))) _ (checked-so 12 (tame (total h.graph p t a))) λ u s.
-      then (λ u. Sum) (SettledBy vacant) (checkWinner h w p t a) _ winner-checked λ v g. (s, g, refl)
-  settle-settled (better gap held) =
+  settle_settled cut_off_lem = refl
+  settle_settled vacant =
+      then (λ u. Small) (SettledBy vacant) (check 12 (tame (total h.graph p t a))) _ (checked_so 12 (tame (total h.graph p t a))) λ u s.
+      then (λ u. Sum) (SettledBy vacant) (check_winner h w p t a) _ winner_checked λ v g. (s, g, refl)
+  settle_settled (better gap held) =
       let new = arriving h p t a w.fresh held.seq false in
-      then (λ u. Small) (SettledBy (better gap held)) (check 12 (tame (total h.graph p t a))) _ (checked-so 12 (tame (total h.graph p t a))) λ u s.
-      then (λ u. Sum) (SettledBy (better gap held)) (checkWinner h w p t a) _ winner-checked λ v g.
-      then (KeptAs h (suc w.fresh) new held) (SettledBy (better gap held)) (keep h (inHand h w new.path) (suc w.fresh) gap new held) _ (keep-kept h _ (suc w.fresh) gap new held) λ j q.
-      (s, g, (or_else new j, with-loser h (suc w.fresh) new held j q, refl))
-  settle-settled (notBetter gap held) =
+      then (λ u. Small) (SettledBy (better gap held)) (check 12 (tame (total h.graph p t a))) _ (checked_so 12 (tame (total h.graph p t a))) λ u s.
+      then (λ u. Sum) (SettledBy (better gap held)) (check_winner h w p t a) _ winner_checked λ v g.
+      then (KeptAs h (suc w.fresh) new held) (SettledBy (better gap held)) (keep h (in_hand_lem h w new.path) (suc w.fresh) gap new held) _ (keep_kept h _ (suc w.fresh) gap new held) λ j q.
+      (s, g, (or_else new j, with_loser h (suc w.fresh) new held j q, refl))
+  settle_settled (not_better gap held) =
       let new = arriving h p t a w.fresh 0 true in
-      then (λ u. Small) (SettledBy (notBetter gap held)) (check 12 (tame (total h.graph p t a))) _ (checked-so 12 (tame (total h.graph p t a))) λ u s.
-      then (KeptAs h (suc w.fresh) held new) (SettledBy (notBetter gap held)) (keep h (inHand h w new.path) (suc w.fresh) gap held new) _ (keep-kept h _ (suc w.fresh) gap held new) λ j q.
-      (s, stays-or-joins h (suc w.fresh) held new j q)
+      then (λ u. Small) (SettledBy (not_better gap held)) (check 12 (tame (total h.graph p t a))) _ (checked_so 12 (tame (total h.graph p t a))) λ u s.
+      then (KeptAs h (suc w.fresh) held new) (SettledBy (not_better gap held)) (keep h (in_hand_lem h w new.path) (suc w.fresh) gap held new) _ (keep_kept h _ (suc w.fresh) gap held new) λ j q.
+      (s, stays_or_joins h (suc w.fresh) held new j q)
 
   -- ---- and what `finish` makes of it
 
@@ -162,90 +162,90 @@ module _ (h : Here) (p : Pass) (t : Token) (a : Arc) (w : Work) where
   passing : (v : Work) → (w.cutoff ≼ total h.graph p t a) ≡ false → Small → v.cutoff ≡ lower p (total h.graph p t a) w.cutoff → v.fresh ≡ w.fresh + 2 → Still p w v → Passing h p t a w v
   passing v e s c f q = record { under = e; small = s; cutoff = c; fresh = f; still = q }
 
-  still-passed : (u v : Work) → u.queue ≡ w.queue → u.requeued ≡ w.requeued → Still p u v → Still p w v
-  still-passed u v e f = go p
+  still_passed : (u v : Work) → u.queue ≡ w.queue → u.requeued ≡ w.requeued → Still p u v → Still p w v
+  still_passed u v e f = go p
     where
       go : (p : Pass) → Still p u v → Still p w v
       go (emitting ls off ad) q = (q.0 ∙ e, q.1 ∙ f)
       go nonemitting q = tt
 
-  still-same : (v : Work) → v.queue ≡ w.queue → v.requeued ≡ w.requeued → Still p w v
-  still-same v e f = go p
+  still_same : (v : Work) → v.queue ≡ w.queue → v.requeued ≡ w.requeued → Still p w v
+  still_same v e f = go p
     where
       go : (p : Pass) → Still p w v
       go (emitting ls off ad) = (e, f)
       go nonemitting = tt
 
   -- a winner, into an empty state or over a token
-  wins-came : (under : (w.cutoff ≼ total h.graph p t a) ≡ false) → Small → (u : Token) (q : ℕ)
-      → ((v : Work) → Passing h p t a w v → v.table ≡ set w.table a.target (some u) → v.seq ≡ q → Pushed p a.target w.queue v.queue → Result v) → Ok Result (fin (tokenWins u q))
+  wins_came : (under : (w.cutoff ≼ total h.graph p t a) ≡ false) → Small → (u : Token) (q : ℕ)
+      → ((v : Work) → Passing h p t a w v → v.table ≡ set w.table a.target (some u) → v.seq ≡ q → Pushed p a.target w.queue v.queue → Result v) → Ok Result (fin (token_wins u q))
   unfolding finish put passed
-  wins-came under s u q k =
+  wins_came under s u q k =
       let x = put a.target u q (passed p (total h.graph p t a) w) in
-      weaken (QueuedIn p (Pushed p a.target) x) Result (pushWinner h p a.target x)
-      (λ v r. k v (passing v under s r.0.cutoff r.0.fresh (still-passed x v refl refl r.1)) r.0.table r.0.seq r.0.queue) (winner-queued h p a.target x)
+      weaken (QueuedIn p (Pushed p a.target) x) Result (push_winner h p a.target x)
+      (λ v r. k v (passing v under s r.0.cutoff r.0.fresh (still_passed x v refl refl r.1)) r.0.table r.0.seq r.0.queue) (winner_queued h p a.target x)
 
-  joins-came : (under : (w.cutoff ≼ total h.graph p t a) ≡ false) → Small → (u : Token)
-      → ((v : Work) → Passing h p t a w v → v.table ≡ set w.table a.target (some u) → v.seq ≡ w.seq → More w.queue v.queue → Result v) → Ok Result (fin (tokenJoins u))
+  joins_came : (under : (w.cutoff ≼ total h.graph p t a) ≡ false) → Small → (u : Token)
+      → ((v : Work) → Passing h p t a w v → v.table ≡ set w.table a.target (some u) → v.seq ≡ w.seq → More w.queue v.queue → Result v) → Ok Result (fin (token_joins u))
   unfolding finish put passed
-  joins-came under s u k =
+  joins_came under s u k =
       let x = put a.target u w.seq (passed p (total h.graph p t a) w) in
-      weaken (QueuedIn p More x) Result (pushJoined h p a.target x)
-      (λ v r. k v (passing v under s r.0.cutoff r.0.fresh (still-passed x v refl refl r.1)) r.0.table r.0.seq r.0.queue) (joined-queued h p a.target x)
+      weaken (QueuedIn p More x) Result (push_joined h p a.target x)
+      (λ v r. k v (passing v under s r.0.cutoff r.0.fresh (still_passed x v refl refl r.1)) r.0.table r.0.seq r.0.queue) (joined_queued h p a.target x)
 
-  stays-came : (under : (w.cutoff ≼ total h.graph p t a) ≡ false) → Small → (held : Token) → place_of w a ≡ some held → (total h.graph p t a ≺ held.cost) ≡ false → Ok Result (fin tokenStays)
+  stays_came : (under : (w.cutoff ≼ total h.graph p t a) ≡ false) → Small → (held : Token) → place_of w a ≡ some held → (total h.graph p t a ≺ held.cost) ≡ false → Ok Result (fin token_stays)
   unfolding finish passed
-  stays-came under s held e c = cameDropped (passing _ under s refl refl (still-same _ refl refl)) held e c refl refl refl
+  stays_came under s held e c = came_dropped (passing _ under s refl refl (still_same _ refl refl)) held e c refl refl refl
 
   abbrev by : Meets → Type 0
   by m = Ok Result (settle h p t a w m >>= fin)
 
-  by-change : (m : Meets) → ((c : Change) → SettledBy m c → Ok Result (fin c)) → by m
-  by-change m k = then (SettledBy m) Result (settle h p t a w m) fin (settle-settled m) k
+  by_change : (m : Meets) → ((c : Change) → SettledBy m c → Ok Result (fin c)) → by m
+  by_change m k = then (SettledBy m) Result (settle h p t a w m) fin (settle_settled m) k
 
-  cut_by : (w.cutoff ≼ total h.graph p t a) ≡ true → by cutOff
+  cut_by : (w.cutoff ≼ total h.graph p t a) ≡ true → by cut_off_lem
   unfolding finish
-  cut_by e = by-change cutOff λ c q. subst (λ (x : Change). Ok Result (fin x)) (sym q) (cameCut e refl)
+  cut_by e = by_change cut_off_lem λ c q. subst (λ (x : Change). Ok Result (fin x)) (sym q) (came_cut e refl)
 
-  vacant-by : (w.cutoff ≼ total h.graph p t a) ≡ false → place_of w a ≡ none → by vacant
-  vacant-by e o =
-      by-change vacant λ c q.
-      subst (λ (x : Change). Ok Result (fin x)) (sym q.2) (wins-came e q.0 (arriving h p t a w.fresh (suc w.seq) false) (suc w.seq) λ v k. cameVacant k o q.1)
+  vacant_by : (w.cutoff ≼ total h.graph p t a) ≡ false → place_of w a ≡ none → by vacant
+  vacant_by e o =
+      by_change vacant λ c q.
+      subst (λ (x : Change). Ok Result (fin x)) (sym q.2) (wins_came e q.0 (arriving h p t a w.fresh (suc w.seq) false) (suc w.seq) λ v k. came_vacant k o q.1)
 
-  better-by : (w.cutoff ≼ total h.graph p t a) ≡ false → (gap : Float) (held : Token) → place_of w a ≡ some held → (total h.graph p t a ≺ held.cost) ≡ true → by (better gap held)
-  better-by e gap held o l =
-      by-change (better gap held) λ c q.
+  better_by : (w.cutoff ≼ total h.graph p t a) ≡ false → (gap : Float) (held : Token) → place_of w a ≡ some held → (total h.graph p t a ≺ held.cost) ≡ true → by (better gap held)
+  better_by e gap held o l =
+      by_change (better gap held) λ c q.
       let u = q.2.0 in
-      subst (λ (x : Change). Ok Result (fin x)) (sym q.2.2) (wins-came e q.0 u w.seq λ v k. cameBetter k held o l q.1 u q.2.1)
+      subst (λ (x : Change). Ok Result (fin x)) (sym q.2.2) (wins_came e q.0 u w.seq λ v k. came_better k held o l q.1 u q.2.1)
 
-  notBetter-by : (w.cutoff ≼ total h.graph p t a) ≡ false → (gap : Float) (held : Token) → place_of w a ≡ some held → (total h.graph p t a ≺ held.cost) ≡ false → by (notBetter gap held)
-  notBetter-by e gap held o l =
-      by-change (notBetter gap held) λ c q.
-      case q.1 (λ r. subst (λ (x : Change). Ok Result (fin x)) (sym r) (stays-came e q.0 held o l))
-      (λ r. subst (λ (x : Change). Ok Result (fin x)) (sym r) (joins-came e q.0 (joined h (suc w.fresh) held (arriving h p t a w.fresh 0 true)) λ v k. cameJoined k held o l))
+  not_better-by : (w.cutoff ≼ total h.graph p t a) ≡ false → (gap : Float) (held : Token) → place_of w a ≡ some held → (total h.graph p t a ≺ held.cost) ≡ false → by (not_better gap held)
+  not_better-by e gap held o l =
+      by_change (not_better gap held) λ c q.
+      case q.1 (λ r. subst (λ (x : Change). Ok Result (fin x)) (sym r) (stays_came e q.0 held o l))
+      (λ r. subst (λ (x : Change). Ok Result (fin x)) (sym r) (joins_came e q.0 (joined h (suc w.fresh) held (arriving h p t a w.fresh 0 true)) λ v k. came_joined k held o l))
 
-  pub arrive-came : Ok (Came h p t a w) (arrive h p t a w)
+  pub arrive_came : Ok (Came h p t a w) (arrive h p t a w)
   unfolding arrive meets
-  arrive-came = go (w.cutoff ≼ tot) refl (place_of w a) refl
+  arrive_came = go (w.cutoff ≼ tot) refl (place_of w a) refl
     where
       tot : Float
       tot = total h.graph p t a
 
-      beside : (held : Token) → (w.cutoff ≼ tot) ≡ false → place_of w a ≡ some held → (b : Bool) → (tot ≺ held.cost) ≡ b → by (cond b (better (held.cost ⊖ tot) held) (notBetter (tot ⊖ held.cost) held))
-      beside held e o true l = better-by e (held.cost ⊖ tot) held o l
-      beside held e o false l = notBetter-by e (tot ⊖ held.cost) held o l
+      beside : (held : Token) → (w.cutoff ≼ tot) ≡ false → place_of w a ≡ some held → (b : Bool) → (tot ≺ held.cost) ≡ b → by (cond b (better (held.cost ⊖ tot) held) (not_better (tot ⊖ held.cost) held))
+      beside held e o true l = better_by e (held.cost ⊖ tot) held o l
+      beside held e o false l = not_better-by e (tot ⊖ held.cost) held o l
 
-      go : (b : Bool) → (w.cutoff ≼ tot) ≡ b → (o : Option Token) → place_of w a ≡ o → by (elim b as (λ c. Meets) [ true ↦ cutOff | false ↦ against tot o ])
+      go : (b : Bool) → (w.cutoff ≼ tot) ≡ b → (o : Option Token) → place_of w a ≡ o → by (elim b as (λ c. Meets) [ true ↦ cut_off_lem | false ↦ against tot o ])
       go true e o q = cut_by e
-      go false e none q = vacant-by e q
+      go false e none q = vacant_by e q
       go false e (some held) q = beside held e q (tot ≺ held.cost) refl
 
 -- ---- an invariant J of the work that every arrival keeps
 
 module _ (J : Work → Type 0) (h : Here) (p : Pass) where
-  pub arriveAll-keeps : (t : Token) (as' : List Arc) → ((a : Arc) → a ∈ as' → takes p a ≡ true → (w v : Work) → J w → Came h p t a w v → J v) → (w : Work) → J w → Ok J (arriveAll h p t as' w)
-  unfolding arriveAll
-  arriveAll-keeps t [] k w j = j
-  arriveAll-keeps t (a ∷ as') k w j =
-      let rest = arriveAll-keeps t as' (λ b m. k b (there m)) in
-      branches J (takes p a) _ _ (λ e. then (Came h p t a w) J (arrive h p t a w) _ (arrive-came h p t a w) λ v c. rest v (k a (here refl) e w v j c)) (λ e. rest w j)
+  pub arrive_all-keeps : (t : Token) (as' : List Arc) → ((a : Arc) → a ∈ as' → takes p a ≡ true → (w v : Work) → J w → Came h p t a w v → J v) → (w : Work) → J w → Ok J (arrive_all h p t as' w)
+  unfolding arrive_all
+  arrive_all-keeps t [] k w j = j
+  arrive_all-keeps t (a ∷ as') k w j =
+      let rest = arrive_all-keeps t as' (λ b m. k b (there m)) in
+      branches J (takes p a) _ _ (λ e. then (Came h p t a w) J (arrive h p t a w) _ (arrive_came h p t a w) λ v c. rest v (k a (here refl) e w v j c)) (λ e. rest w j)

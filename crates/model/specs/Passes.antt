@@ -5,21 +5,21 @@ use Rattle.std.specs.Float.Ieee.{neg}
 use Rattle.lists.specs.Lists.{all}
 use Rattle.real32.specs.Small.{huge, tame}
 use Rattle.model.specs.Basics.{◌≺◌, ◌≼◌, ◌⊕◌, ◌⊖◌, 0f, ∞, first_of, refuse, Outcome, ok, refused, ◌>>=◌, check}
-use Rattle.model.specs.Graph.{Graph, Arc, NO-STATE, states, arcsOf, emits, hasEps}
-use Rattle.model.specs.Path.{emptyPath, Token, Table, paths, Limits}
-use Rattle.model.specs.Cutoff.{Config, best, getCutoff}
-use Rattle.model.specs.Arrive.{Pass, emitting, nonemitting, Here, Work, loglike, lower, push, arriveAll}
+use Rattle.model.specs.Graph.{Graph, Arc, no_state, states, arcs_of, emits, has_eps}
+use Rattle.model.specs.Path.{empty_path, Token, Table, paths, Limits}
+use Rattle.model.specs.Cutoff.{Config, best, get_cutoff}
+use Rattle.model.specs.Arrive.{Pass, emitting, nonemitting, Here, Work, loglike, lower, push, arrive_all}
 
 -- ---- the emitting pass: the Rust's `emitting`
 
 -- The first look: the best state's emitting arcs only tighten the next cutoff, as weight + offset − loglike + cost; 12 for such a total.
-unfoldable pub firstLook : Graph → (loglikes : List Float) → (offset adaptive cost : Float) → List Arc → (next : Float) → Outcome Float
-firstLook g ls off ad cost [] next = ok next
-firstLook g ls off ad cost (a ∷ rest) next =
+unfoldable pub first_look : Graph → (loglikes : List Float) → (offset adaptive cost : Float) → List Arc → (next : Float) → Outcome Float
+first_look g ls off ad cost [] next = ok next
+first_look g ls off ad cost (a ∷ rest) next =
     let w = a.weight ⊕ off ⊖ loglike g ls a ⊕ cost in
     elim (emits a) [
-      | true ↦ check 12 (tame w) >>= λ u. firstLook g ls off ad cost rest (lower (emitting ls off ad) w next)
-      | false ↦ firstLook g ls off ad cost rest next
+      | true ↦ check 12 (tame w) >>= λ u. first_look g ls off ad cost rest (lower (emitting ls off ad) w next)
+      | false ↦ first_look g ls off ad cost rest next
     ]
 
 -- the offset is minus the best cost
@@ -29,38 +29,38 @@ offset_of (some b) = neg b.1.cost
 
 abbrev pub look : Graph → List Float → (adaptive : Float) → Option (ℕ × Token) → Outcome Float
 look g ls ad none = ok ∞
-look g ls ad (some b) = firstLook g ls (neg b.1.cost) ad b.1.cost (arcsOf g b.0) ∞
+look g ls ad (some b) = first_look g ls (neg b.1.cost) ad b.1.cost (arcs_of g b.0) ∞
 
 -- the tokens of states s, s + 1, .. that are not above the cutoff
-unfoldable pub emitFrom : Here → Pass → (cutoff : Float) → ℕ → Table → Work → Outcome Work
-emitFrom h p cut s [] w = ok w
-emitFrom h p cut s (none ∷ ts) w = emitFrom h p cut (suc s) ts w
-emitFrom h p cut s (some t ∷ ts) w =
+unfoldable pub emit_from : Here → Pass → (cutoff : Float) → ℕ → Table → Work → Outcome Work
+emit_from h p cut s [] w = ok w
+emit_from h p cut s (none ∷ ts) w = emit_from h p cut (suc s) ts w
+emit_from h p cut s (some t ∷ ts) w =
     elim (cut ≺ t.cost) [
-      | true ↦ emitFrom h p cut (suc s) ts w
-      | false ↦ arriveAll h p t (arcsOf h.graph s) w >>= λ v. emitFrom h p cut (suc s) ts v
+      | true ↦ emit_from h p cut (suc s) ts w
+      | false ↦ arrive_all h p t (arcs_of h.graph s) w >>= λ v. emit_from h p cut (suc s) ts v
     ]
 
-abbrev pub noTokens : Graph → Table
-noTokens g = replicate (states g) none
+abbrev pub no_tokens : Graph → Table
+no_tokens g = replicate (states g) none
 
-abbrev pub emptyWork : Graph → (seq fresh : ℕ) → (cutoff : Float) → Work
-emptyWork g q n cutoff = record { table = noTokens g; seq = q; fresh = n; cutoff = cutoff; queue = []; requeued = [] }
+abbrev pub empty_work : Graph → (seq fresh : ℕ) → (cutoff : Float) → Work
+empty_work g q n cutoff = record { table = no_tokens g; seq = q; fresh = n; cutoff = cutoff; queue = []; requeued = [] }
 
-unfoldable pub emittingPass : Here → Config → List Float → Table → (seq fresh : ℕ) → Outcome Work
-emittingPass h c ls ts q n =
-    let cut = getCutoff c ts in
+unfoldable pub emitting_pass : Here → Config → List Float → Table → (seq fresh : ℕ) → Outcome Work
+emitting_pass h c ls ts q n =
+    let cut = get_cutoff c ts in
     let b = best ts in
     look h.graph ls cut.adaptive b >>= λ next.
-    emitFrom h (emitting ls (offset_of b) cut.adaptive) cut.cutoff 0 ts (emptyWork h.graph q n next)
+    emit_from h (emitting ls (offset_of b) cut.adaptive) cut.cutoff 0 ts (empty_work h.graph q n next)
 
 -- ---- the nonemitting pass: the Rust's `nonemitting`
 
 -- the active states with epsilon arcs, pushed ascending
-unfoldable pub pushFrom : Here → ℕ → Table → Work → Outcome Work
-pushFrom h s [] w = ok w
-pushFrom h s (none ∷ ts) w = pushFrom h (suc s) ts w
-pushFrom h s (some t ∷ ts) w = elim (hasEps h.graph s) [ true ↦ push h s [] w >>= λ v. pushFrom h (suc s) ts v | false ↦ pushFrom h (suc s) ts w ]
+unfoldable pub push_from : Here → ℕ → Table → Work → Outcome Work
+push_from h s [] w = ok w
+push_from h s (none ∷ ts) w = push_from h (suc s) ts w
+push_from h s (some t ∷ ts) w = elim (has_eps h.graph s) [ true ↦ push h s [] w >>= λ v. push_from h (suc s) ts v | false ↦ push_from h (suc s) ts w ]
 
 abbrev pub popped : Work → (queue : List ℕ) → Work
 popped w q = record { table = w.table; seq = w.seq; fresh = w.fresh; cutoff = w.cutoff; queue = q; requeued = w.requeued }
@@ -68,7 +68,7 @@ popped w q = record { table = w.table; seq = w.seq; fresh = w.fresh; cutoff = w.
 -- a popped state's token, copied, unless it is at or above the cutoff
 unfoldable pub expand : Here → ℕ → Option Token → Work → Outcome Work
 expand h s none w = ok w
-expand h s (some t) w = elim (w.cutoff ≼ t.cost) [ true ↦ ok w | false ↦ arriveAll h nonemitting t (arcsOf h.graph s) w ]
+expand h s (some t) w = elim (w.cutoff ≼ t.cost) [ true ↦ ok w | false ↦ arrive_all h nonemitting t (arcs_of h.graph s) w ]
 
 -- last in, first out, until the queue is empty; the fuel counts the pops
 unfoldable pub drain : (fuel : ℕ) → Here → Work → Outcome Work
@@ -79,8 +79,8 @@ drain (suc n) h w = elim w.queue [ [] ↦ ok w | s ∷ q ↦ expand h s (get_or 
 abbrev pub fuel : Graph → ℕ
 fuel g = states g * 2 ^ 34
 
-unfoldable pub nonemittingPass : Here → Work → Outcome Work
-nonemittingPass h w = pushFrom h 0 w.table w >>= λ v. drain (fuel h.graph) h v
+unfoldable pub nonemitting_pass : Here → Work → Outcome Work
+nonemitting_pass h w = push_from h 0 w.table w >>= λ v. drain (fuel h.graph) h v
 
 -- ---- the copy, and the calls that change it
 
@@ -94,11 +94,11 @@ pub record State : Type 0 where
 
 -- what a fitting leaves for its own start: no margin
 abbrev pub fitted : Graph → State
-fitted g = record { margin = none; frames = 0; table = noTokens g; seq = 0; fresh = 0 }
+fitted g = record { margin = none; frames = 0; table = no_tokens g; seq = 0; fresh = 0 }
 
 -- no tokens, no joins and zero frames: what a start begins with, and what a refused one leaves
 unfoldable pub dropped : Graph → State → State
-dropped g st = record { margin = st.margin; frames = 0; table = noTokens g; seq = 0; fresh = 0 }
+dropped g st = record { margin = st.margin; frames = 0; table = no_tokens g; seq = 0; fresh = 0 }
 
 abbrev pub done : State → (frames : ℕ) → Work → State
 done st n w = record { margin = st.margin; frames = n; table = w.table; seq = w.seq; fresh = w.fresh }
@@ -106,27 +106,27 @@ done st n w = record { margin = st.margin; frames = n; table = w.table; seq = w.
 abbrev pub during : Graph → Limits → State → (frame : ℕ) → Table → Here
 during g l st n before = record { graph = g; limits = l; margin = st.margin; frame = n; before = paths before }
 
-unfoldable pub startToken : Token
-startToken = record { cost = 0f; graph = 0f; path = emptyPath; phone = pos 0; seq = 0 }
+unfoldable pub start_token : Token
+start_token = record { cost = 0f; graph = 0f; path = empty_path; phone = pos 0; seq = 0 }
 
 -- the start state's token, and the beam as cutoff
-abbrev pub startWork : Graph → Config → Work
-startWork g c = record { table = set (noTokens g) g.start (some startToken); seq = 0; fresh = 0; cutoff = c.beam; queue = []; requeued = [] }
+abbrev pub start_work : Graph → Config → Work
+start_work g c = record { table = set (no_tokens g) g.start (some start_token); seq = 0; fresh = 0; cutoff = c.beam; queue = []; requeued = [] }
 
 -- the Rust's `init_decoding`: a start first drops all earlier tokens
 unfoldable pub start : Graph → Config → Limits → State → Outcome State
-start g c l st = elim (eqb g.start NO-STATE) [ true ↦ ok (dropped g st) | false ↦ nonemittingPass (during g l st 0 []) (startWork g c) >>= λ v. ok (done st 0 v) ]
+start g c l st = elim (eqb g.start no_state) [ true ↦ ok (dropped g st) | false ↦ nonemitting_pass (during g l st 0 []) (start_work g c) >>= λ v. ok (done st 0 v) ]
 
 -- 10, 8, 9
-unfoldable pub checkFrame : Graph → State → List Float → Option ℕ
-checkFrame g st ls = first_of (refuse 10 (leb 65_536 st.frames) ∷ refuse 8 (not (eqb (length ls) g.pdfs)) ∷ refuse 9 (not (all tame ls)) ∷ [])
+unfoldable pub check_frame : Graph → State → List Float → Option ℕ
+check_frame g st ls = first_of (refuse 10 (leb 65_536 st.frames) ∷ refuse 8 (not (eqb (length ls) g.pdfs)) ∷ refuse 9 (not (all tame ls)) ∷ [])
 
 -- the Rust's `advance_frame`
 unfoldable pub frame : Graph → Config → Limits → List Float → State → Outcome State
 frame g c l ls st =
     let h = during g l st st.frames st.table in
-    elim (checkFrame g st ls) [
-      | none ↦ emittingPass h c ls st.table st.seq st.fresh >>= λ w. nonemittingPass h w >>= λ v. ok (done st (suc st.frames) v)
+    elim (check_frame g st ls) [
+      | none ↦ emitting_pass h c ls st.table st.seq st.fresh >>= λ w. nonemitting_pass h w >>= λ v. ok (done st (suc st.frames) v)
       | some n ↦ refused n
     ]
 
@@ -134,31 +134,31 @@ frame g c l ls st =
 unfoldable pub fair : Float → Bool
 fair x = 0f ≼ x && x ≺ huge
 
-abbrev pub fairMargin : Option Float → Bool
-fairMargin none = true
-fairMargin (some m) = fair m
+abbrev pub fair_margin : Option Float → Bool
+fair_margin none = true
+fair_margin (some m) = fair m
 
 -- the Rust's `set_keep`, with 6
-unfoldable pub setKeep : Option Float → State → Outcome State
-setKeep m st = elim (fairMargin m) [ true ↦ ok (record { margin = m; frames = st.frames; table = st.table; seq = st.seq; fresh = st.fresh }) | false ↦ refused 6 ]
+unfoldable pub set_keep : Option Float → State → Outcome State
+set_keep m st = elim (fair_margin m) [ true ↦ ok (record { margin = m; frames = st.frames; table = st.table; seq = st.seq; fresh = st.fresh }) | false ↦ refused 6 ]
 
 -- ---- the fitter's check
 
 -- The places of the lent stores: of each slice kept per state; of the record store, and of each slice kept per record; of the store for kept readings, and of each slice kept per kept reading.
 pub record Places : Type 0 where
-  pub perState : List ℕ
+  pub per_state_lem : List ℕ
   pub records : ℕ
-  pub perRecord : List ℕ
+  pub per_record_lem : List ℕ
   pub kept : ℕ
-  pub perKept : List ℕ
+  pub per_kept_lem : List ℕ
 
 -- n places or more in each
 abbrev pub at_least : ℕ → List ℕ → Bool
 at_least n places = all (λ p. leb n p) places
 
 -- 6: settings, then stores
-unfoldable pub checkFit : Graph → Config → Places → Option ℕ
-checkFit g c ps =
+unfoldable pub check_fit : Graph → Config → Places → Option ℕ
+check_fit g c ps =
     refuse 6
-    (not (fair c.beam) || not (fair c.beam-delta) || leb c.max-active c.min-active ||
-    not (at_least (states g) ps.perState) || ltb 1_048_576 ps.records || not (at_least ps.records ps.perRecord) || not (at_least ps.kept ps.perKept))
+    (not (fair c.beam) || not (fair c.beam_delta) || leb c.max_active c.min_active ||
+    not (at_least (states g) ps.per_state_lem) || ltb 1_048_576 ps.records || not (at_least ps.records ps.per_record_lem) || not (at_least ps.kept ps.per_kept_lem))

@@ -19,15 +19,15 @@ pub record Merge : Type 0 where
   pub number : ℕ
   pub frame : ℕ
   pub phone : ℤ
-  pub keptPhone : ℤ
+  pub kept_phone : ℤ
   pub cost : Float
   pub graph : Float
 
 -- Newest first. A branch holds the loser's whole path, branches too, beside the winner's.
 pub data Path : Type 0 where
-  emptyPath : Path
-  arcOn : Step → Path → Path
-  branchOn : Merge → (kept : Path) → Path → Path
+  empty_path : Path
+  arc_on_lem : Step → Path → Path
+  branch_on : Merge → (kept : Path) → Path → Path
 
 -- the Rust's `Token`, with a path for its link
 pub record Token : Type 0 where
@@ -55,24 +55,24 @@ abbrev pub word : Step → ℤ
 word s = s.arc.olabel
 
 -- an arc with a word or a change of phone
-abbrev pub isLink : Step → Bool
-isLink s = nonzero (word s) || nonzero s.starts
+abbrev pub is_link : Step → Bool
+is_link s = nonzero (word s) || nonzero s.starts
 
 -- w in front where it is a word
-abbrev pub withWord : ℤ → List ℤ → List ℤ
-withWord w ws = cond (nonzero w) (w ∷ ws) ws
+abbrev pub with_word : ℤ → List ℤ → List ℤ
+with_word w ws = cond (nonzero w) (w ∷ ws) ws
 
 -- the numbers of the links and branches of a path, newest first, and no kept path's
 unfoldable pub links : Path → List ℕ
-links emptyPath = []
-links (arcOn s p) = cond (isLink s) (s.number ∷ links p) (links p)
-links (branchOn m k p) = m.number ∷ links p
+links empty_path = []
+links (arc_on_lem s p) = cond (is_link s) (s.number ∷ links p) (links p)
+links (branch_on m k p) = m.number ∷ links p
 
 -- the words of a path, newest first
-unfoldable pub wordsBack : Path → List ℤ
-wordsBack emptyPath = []
-wordsBack (arcOn s p) = withWord (word s) (wordsBack p)
-wordsBack (branchOn m k p) = wordsBack p
+unfoldable pub words_back : Path → List ℤ
+words_back empty_path = []
+words_back (arc_on_lem s p) = with_word (word s) (words_back p)
+words_back (branch_on m k p) = words_back p
 
 abbrev pub memℕ : ℕ → List ℕ → Bool
 memℕ n = any (eqb n)
@@ -84,38 +84,38 @@ same_words = eq_list eqℤ
 
 -- A path above the first of its links and branches that is among `others`: the part above the shared record.
 unfoldable pub above : List ℕ → Path → Path
-above others emptyPath = emptyPath
-above others (arcOn s p) = cond (isLink s && memℕ s.number others) emptyPath (arcOn s (above others p))
-above others (branchOn m k p) = cond (memℕ m.number others) emptyPath (branchOn m k (above others p))
+above others empty_path = empty_path
+above others (arc_on_lem s p) = cond (is_link s && memℕ s.number others) empty_path (arc_on_lem s (above others p))
+above others (branch_on m k p) = cond (memℕ m.number others) empty_path (branch_on m k (above others p))
 
 -- some branch's kept history costs at most `slack`
-unfoldable pub keptWithin : Float → Path → Bool
-keptWithin slack emptyPath = false
-keptWithin slack (arcOn s p) = keptWithin slack p
-keptWithin slack (branchOn m k p) = m.cost ≼ slack || keptWithin slack p
+unfoldable pub kept_within : Float → Path → Bool
+kept_within slack empty_path = false
+kept_within slack (arc_on_lem s p) = kept_within slack p
+kept_within slack (branch_on m k p) = m.cost ≼ slack || kept_within slack p
 
 -- above the shared record the loser has a kept history that still fits, or the words differ
-unfoldable pub worthKeeping : (won lost : Path) → (slack : Float) → Bool
-worthKeeping won lost slack =
+unfoldable pub worth_keeping : (won lost : Path) → (slack : Float) → Bool
+worth_keeping won lost slack =
     let w = above (links lost) won in
     let l = above (links won) lost in
-    keptWithin slack l || not (same_words (wordsBack w) (wordsBack l))
+    kept_within slack l || not (same_words (words_back w) (words_back l))
 
 -- ---- records: what the store holds
 
 -- the numbers of the records that a path reaches, through `prev` and through kept histories
 unfoldable pub records : Path → List ℕ
-records emptyPath = []
-records (arcOn s p) = cond (isLink s && not s.beside) (s.number ∷ records p) (records p)
-records (branchOn m k p) = m.number ∷ (records k ++ records p)
+records empty_path = []
+records (arc_on_lem s p) = cond (is_link s && not s.beside) (s.number ∷ records p) (records p)
+records (branch_on m k p) = m.number ∷ (records k ++ records p)
 
-abbrev pub recordsOf : List Path → List ℕ
-recordsOf [] = []
-recordsOf (p ∷ ps) = records p ++ recordsOf ps
+abbrev pub records_of : List Path → List ℕ
+records_of [] = []
+records_of (p ∷ ps) = records p ++ records_of ps
 
 -- how many records are live, where these are the paths of the tokens and of what is in hand
 unfoldable pub live : List Path → ℕ
-live ps = length (firsts eqb [] (recordsOf ps))
+live ps = length (firsts eqb [] (records_of ps))
 
 -- What the lent stores hold: the meter of the records and the places of the others. The definition with `unlimited` is the copy that is told of 13 to 15.
 pub record Limits : Type 0 where
@@ -125,8 +125,8 @@ pub record Limits : Type 0 where
   pub kept : Option ℕ  -- 15: the places for the kept readings
 
 -- a store of so many places: full where live records fill it
-unfoldable pub fullAt : ℕ → List Path → Bool
-fullAt cap ps = not (ltb (live ps) cap)
+unfoldable pub full_at : ℕ → List Path → Bool
+full_at cap ps = not (ltb (live ps) cap)
 
 unfoldable pub unlimited : Limits
 unlimited = record { full = λ ps. false; queue = none; below = none; kept = none }

@@ -5,13 +5,13 @@ use Rattle.std.proofs.Math.Path.{subst}
 use Rattle.std.proofs.Math.Option.{none}
 use Rattle.lists.specs.Lists.{◌∈◌}
 use Rattle.model.specs.Basics.{Outcome, ok, refused}
-use Rattle.model.specs.Graph.{Arc, states, arcsOf}
+use Rattle.model.specs.Graph.{Arc, states, arcs_of}
 use Rattle.model.specs.Path.{Path, Table}
 use Rattle.model.specs.Arrive.{Here, Work as ModelWork}
 use Rattle.model.specs.Passes.{popped, expand}
 use Rattle.model.specs.Accepted.{Ok}
 use Rattle.copy_laws.specs.Spending.{Fits, left}
-use Rattle.copy_laws.specs.Ends.{Loops, loopEnds, loopRefused, loopTurns, Going as Lasts, turn-goes}
+use Rattle.copy_laws.specs.Ends.{Loops, loop_ends, loop_refused, loop_turns, Going as Lasts, turn_goes}
 use Rattle.stores.specs.Rep.{Lent}
 use Rattle.arrivals.specs.declared.Setting.{Setting}
 use Rattle.arcs.specs.declared.Pass.TheVariants.{Nonemitting}
@@ -21,9 +21,9 @@ use Rattle.arcs.specs.declared.Passed.TheVariants.{Refused, On}
 use Rattle.arcs.specs.Queue.{Queued}
 use Rattle.arcs.specs.Passed.{Ground, At}
 use Rattle.arcs.specs.State.{Tables, TablesOf}
-use Rattle.arcs.specs.Ended.{EndedBy, endedRefused, endedOn}
+use Rattle.arcs.specs.Ended.{EndedBy, ended_refused, ended_on}
 use Rattle.nonemitting.specs.Expand.{ExpandGiven, ExpandIs}
-use Rattle.nonemitting.specs.Measure.{leftIn, left_is}
+use Rattle.nonemitting.specs.Measure.{left_in, left_is}
 
 pub record DrainGiven (g : Setting) (m : Lent) (qs eps : List ℕ) (T : Tables) (x : Work) : Type 0 where
   pub H : Here
@@ -69,7 +69,7 @@ empty n qs k (s ∷ rest) l e = let z = e.1 in absurd (omega arith)
 -- ---- the loop
 
 module _ {g : Setting} {m : Lent} {qs eps : List ℕ} {T : Tables} {x : Work} (G : DrainGiven g m qs eps T x) where
-  inside : (s : ℕ) (a : Arc) → a ∈ arcsOf G.H.graph s → a.target < states G.H.graph
+  inside : (s : ℕ) (a : Arc) → a ∈ arcs_of G.H.graph s → a.target < states G.H.graph
   inside s a i = (G.ground.good.arc s a i).target
 
   -- the turns so far
@@ -80,12 +80,12 @@ module _ {g : Setting} {m : Lent} {qs eps : List ℕ} {T : Tables} {x : Work} (G
     pub costs : Fits w'.table
     pub rest : (o : Outcome ModelWork) → Loops G.H w' o → Loops G.H G.w o
 
-  pub far-start : SoFar m qs x
-  far-start = record { w' = G.w; p = G.p; at = G.at; costs = G.costs; rest = λ o l. l }
+  pub far_start : SoFar m qs x
+  far_start = record { w' = G.w; p = G.p; at = G.at; costs = G.costs; rest = λ o l. l }
 
   module _ {m' : Lent} {qs' : List ℕ} {x' : Work} (F : SoFar m' qs' x') where
-    pub far-end : x'.queued ≤ 0 → Drained G m' qs' (On x')
-    far-end l = record { outcome = ok F.w'; loops = F.rest (ok F.w') (loopEnds (empty g.states qs' x'.queued F.w'.queue l F.at.queue)); ends = endedOn F.p F.at }
+    pub far_end : x'.queued ≤ 0 → Drained G m' qs' (On x')
+    far_end l = record { outcome = ok F.w'; loops = F.rest (ok F.w') (loop_ends (empty g.states qs' x'.queued F.w'.queue l F.at.queue)); ends = ended_on F.p F.at }
 
     module _ (some : 0 < x'.queued) where
       abbrev top : Popped g.states qs' x'.queued F.w'.queue
@@ -95,8 +95,8 @@ module _ {g : Setting} {m : Lent} {qs eps : List ℕ} {T : Tables} {x : Work} (G
       after = popped F.w' top.rest
 
       module _ (k : length qs' ≡ length qs) (s : ℕ) (is : s ≡ get_or qs' (x'.queued - 1) 0) where
-        given-top : ExpandGiven g m' qs' eps T (unqueued x') top.s
-        given-top =
+        given_top : ExpandGiven g m' qs' eps T (unqueued x') top.s
+        given_top =
             record {
               H = G.H;
               w = after;
@@ -113,22 +113,22 @@ module _ {g : Setting} {m : Lent} {qs eps : List ℕ} {T : Tables} {x : Work} (G
               low = top.low;
             }
 
-        pub state-given : ExpandGiven g m' qs' eps T (unqueued x') s
-        state-given = subst (ExpandGiven g m' qs' eps T (unqueued x')) (sym (is ∙ top.last)) given-top
+        pub state_given : ExpandGiven g m' qs' eps T (unqueued x') s
+        state_given = subst (ExpandGiven g m' qs' eps T (unqueued x')) (sym (is ∙ top.last)) given_top
 
         module _ {m'' : Lent} {qs'' : List ℕ} {r : Passed} (step : ExpandIs g m' m'' qs' qs'' eps T (unqueued x') s r) where
           abbrev turned : Outcome ModelWork
           turned = expand G.H top.s (get_or F.w'.table top.s none) after
 
-          step-top : EndedBy g m'' qs'' G.done turned r
-          unfolding given-top
-          step-top = subst (λ (j : ℕ). ExpandIs g m' m'' qs' qs'' eps T (unqueued x') j r) (is ∙ top.last) step given-top
+          step_top : EndedBy g m'' qs'' G.done turned r
+          unfolding given_top
+          step_top = subst (λ (j : ℕ). ExpandIs g m' m'' qs' qs'' eps T (unqueued x') j r) (is ∙ top.last) step given_top
 
-          pub far-stop : (n : ℕ) → r ≡ Refused n → Drained G m'' qs'' (Refused n)
-          far-stop n e = go turned refl (subst (EndedBy g m'' qs'' G.done turned) e step-top)
+          pub far_stop : (n : ℕ) → r ≡ Refused n → Drained G m'' qs'' (Refused n)
+          far_stop n e = go turned refl (subst (EndedBy g m'' qs'' G.done turned) e step_top)
             where
               go : (o : Outcome ModelWork) → turned ≡ o → EndedBy g m'' qs'' G.done o (Refused n) → Drained G m'' qs'' (Refused n)
-              go o q (endedRefused j d z) = record { outcome = refused n; loops = F.rest (refused n) (loopRefused top.s top.rest n top.is q); ends = endedRefused n d z }
+              go o q (ended_refused j d z) = record { outcome = refused n; loops = F.rest (refused n) (loop_refused top.s top.rest n top.is q); ends = ended_refused n d z }
 
           module _ (x'' : Work) (e : r ≡ On x'') where
             record Turn : Type 0 where
@@ -138,10 +138,10 @@ module _ {g : Setting} {m : Lent} {qs eps : List ℕ} {T : Tables} {x : Work} (G
               goes : turned ≡ ok v
 
             turn : Turn
-            turn = go turned refl (subst (EndedBy g m'' qs'' G.done turned) e step-top)
+            turn = go turned refl (subst (EndedBy g m'' qs'' G.done turned) e step_top)
               where
                 go : (o : Outcome ModelWork) → turned ≡ o → EndedBy g m'' qs'' G.done o (On x'') → Turn
-                go o q (endedOn {w} p A) = record { v = w; p = p; at = A; goes = q }
+                go o q (ended_on {w} p A) = record { v = w; p = p; at = A; goes = q }
 
             abbrev len : ℕ
             len = states G.H.graph
@@ -149,13 +149,13 @@ module _ {g : Setting} {m : Lent} {qs eps : List ℕ} {T : Tables} {x : Work} (G
             lasts : Lasts G.H inside (left len F.w' - 1) turn.v
             lasts =
                 subst (Ok (Lasts G.H inside (left len F.w' - 1))) turn.goes
-                (turn-goes G.H inside (left len F.w' - 1) top.s top.rest F.w' top.is (record { long = F.at.stood.rep.progress.size ∙ G.ground.states; costs = F.costs; small = omega arith }))
+                (turn_goes G.H inside (left len F.w' - 1) top.s top.rest F.w' top.is (record { long = F.at.stood.rep.progress.size ∙ G.ground.states; costs = F.costs; small = omega arith }))
 
-            pub far-next : SoFar m'' qs'' x''
-            far-next = record { w' = turn.v; p = turn.p; at = turn.at; costs = lasts.costs; rest = λ o l. F.rest o (loopTurns top.s top.rest turn.v top.is turn.goes l) }
+            pub far_next : SoFar m'' qs'' x''
+            far_next = record { w' = turn.v; p = turn.p; at = turn.at; costs = lasts.costs; rest = λ o l. F.rest o (loop_turns top.s top.rest turn.v top.is turn.goes l) }
 
-            pub far-less : leftIn m''.tokens m''.sums g.side g.states x''.queued < leftIn m'.tokens m'.sums g.side g.states x'.queued
-            far-less =
+            pub far_less : left_in m''.tokens m''.sums g.side g.states x''.queued < left_in m'.tokens m'.sums g.side g.states x'.queued
+            far_less =
                 let a = left_is turn.at ∙ ap (λ (n : ℕ). left n turn.v) G.ground.states in
                 let b = left_is F.at ∙ ap (λ (n : ℕ). left n F.w') G.ground.states in
                 let c = lasts.small in

@@ -7,27 +7,27 @@ use Rattle.std.specs.Float.Ieee.{fits}
 use Rattle.model.specs.Basics.{Outcome, ok, ◌>>=◌}
 use Rattle.model.specs.Path.{Path, Token, Table}
 use Rattle.model.specs.Arrive.{Here, Work as ModelWork}
-use Rattle.model.specs.Passes.{drain, fuel, nonemittingPass}
+use Rattle.model.specs.Passes.{drain, fuel, nonemitting_pass}
 use Rattle.model.specs.Accepted.{Ok}
 use Rattle.tokens.specs.Layout.{Cell, cell_at, place_in}
 use Rattle.records.specs.History.{History}
 use Rattle.copy_laws.specs.Tables.{at_length, none≢some, some_same}
-use Rattle.copy_laws.specs.Begun.{Starts, push-starts}
+use Rattle.copy_laws.specs.Begun.{Starts, push_starts}
 use Rattle.copy_laws.specs.Spending.{Fits}
-use Rattle.copy_laws.specs.Ends.{Emptied, Runs, runs-empty, pass-runs}
-use Rattle.stores.specs.Shown.{Shows, showsToken, Shown}
+use Rattle.copy_laws.specs.Ends.{Emptied, Runs, runs_empty, pass_runs}
+use Rattle.stores.specs.Shown.{Shows, shows_token, Shown}
 use Rattle.stores.specs.Rep.{Lent}
 use Rattle.arrivals.specs.declared.Setting.{Setting}
 use Rattle.arcs.specs.declared.Pass.TheVariants.{Nonemitting}
 use Rattle.arcs.specs.declared.Work.{Work}
 use Rattle.arcs.specs.declared.Passed.{Passed}
 use Rattle.arcs.specs.declared.Passed.TheVariants.{Refused, On}
-use Rattle.arcs.specs.Passed.{Ground, At, PassedBy, passedRefused, passedOn}
+use Rattle.arcs.specs.Passed.{Ground, At, PassedBy, passed_refused, passed_on}
 use Rattle.arcs.specs.State.{Tables, TablesOf}
-use Rattle.arcs.specs.Ended.{EndedBy, endedRefused}
-use Rattle.nonemitting.specs.Pushes.{PushGiven, pushesOf}
+use Rattle.arcs.specs.Ended.{EndedBy, ended_refused}
+use Rattle.nonemitting.specs.Pushes.{PushGiven, pushes_of}
 use Rattle.nonemitting.specs.Drain.{DrainGiven, DrainIs}
-use Rattle.nonemitting.specs.Once.{runs-once}
+use Rattle.nonemitting.specs.Once.{runs_once}
 
 -- any path may be in hand when the pass begins: record 0 stands for the empty one
 pub record NonemittingGiven (g : Setting) (m : Lent) (qs eps : List ℕ) (T : Tables) (x : Work) : Type 0 where
@@ -38,13 +38,13 @@ pub record NonemittingGiven (g : Setting) (m : Lent) (qs eps : List ℕ) (T : Ta
   pub ground : Ground g H done eps (length qs)
   pub at : At g m qs x done p w
   pub of : TablesOf H.graph Nonemitting T
-  pub none-queued : w.queue ≡ []
-  pub none-requeued : w.requeued ≡ []
+  pub none_queued : w.queue ≡ []
+  pub none_requeued : w.requeued ≡ []
 
 -- what the pass leaves
 pub record Nonemitted {g : Setting} {m : Lent} {qs eps : List ℕ} {T : Tables} {x : Work} (G : NonemittingGiven g m qs eps T x) (m' : Lent) (qs' : List ℕ) (r : Passed) : Type 0 where
-  pub ends : EndedBy g m' qs' G.done (nonemittingPass G.H G.w) r
-  pub emptied : Emptied (nonemittingPass G.H G.w)
+  pub ends : EndedBy g m' qs' G.done (nonemitting_pass G.H G.w) r
+  pub emptied : Emptied (nonemitting_pass G.H G.w)
 
 abbrev pub NonemittingIs : (g : Setting) → (m m' : Lent) → (qs qs' eps : List ℕ) → Tables → Work → Passed → Type 0
 NonemittingIs g m m' qs qs' eps T x r = (G : NonemittingGiven g m qs eps T x) → Nonemitted G m' qs' r
@@ -55,58 +55,58 @@ NonemittingIs g m m' qs qs' eps T x r = (G : NonemittingGiven g m qs eps T x) �
 abbrev pub Known : List Float → Type 0
 Known sm = (i : ℕ) → T (fits binary32 (get_or sm i nan))
 
-costs-fit : (h : ℕ → History) (used : ℕ) (tk : List ℕ) (sm : List Float) (b n : ℕ) (ts : Table) → Known sm → Shown h used tk sm b n ts → Fits ts
+costs_fit : (h : ℕ → History) (used : ℕ) (tk : List ℕ) (sm : List Float) (b n : ℕ) (ts : Table) → Known sm → Shown h used tk sm b n ts → Fits ts
 unfolding cell_at
-costs-fit h used tk sm b n ts known S s t e = go (get_or ts s none) e (S.place s (let z = at_length ts s t e in let k = S.size in omega arith))
+costs_fit h used tk sm b n ts known S s t e = go (get_or ts s none) e (S.place s (let z = at_length ts s t e in let k = S.size in omega arith))
   where
     go : (o : Option Token) → o ≡ some t → Shows h used (cell_at tk sm (place_in b s)) o → T (fits binary32 t.cost)
     go none q i = none≢some t q
-    go (some u) q (showsToken y c i) =
+    go (some u) q (shows_token y c i) =
         subst (λ (z : Float). T (fits binary32 z)) (ap (λ (x : Cell). x.cost) c ∙ i.cost ∙ ap (λ (x : Token). x.cost) (some_same u t q)) (known (place_in b s * 2))
 
 module _ {g : Setting} {m : Lent} {qs eps : List ℕ} {T : Tables} {x : Work} (G : NonemittingGiven g m qs eps T x) where
-  abbrev pub push-given : PushGiven g m qs eps x
-  push-given = record { H = G.H; w = G.w; done = G.done; p = G.p; ground = G.ground; at = G.at; none-requeued = G.none-requeued }
+  abbrev pub push_given : PushGiven g m qs eps x
+  push_given = record { H = G.H; w = G.w; done = G.done; p = G.p; ground = G.ground; at = G.at; none_requeued = G.none_requeued }
 
-  pub push-asks : (g.side ≤ 1) × (g.states * 8 ≤ length m.tokens) × (g.states ≤ length eps)
-  push-asks = (G.ground.pass.side, G.at.stood.places.tokens, G.ground.eps-long)
+  pub push_asks : (g.side ≤ 1) × (g.states * 8 ≤ length m.tokens) × (g.states ≤ length eps)
+  push_asks = (G.ground.pass.side, G.at.stood.places.tokens, G.ground.eps_long)
 
   module _ (known : Known m.sums) where
     costs : Fits G.w.table
-    costs = costs-fit G.at.stood.rep.h x.used m.tokens m.sums g.side g.states G.w.table known G.at.stood.rep.progress
+    costs = costs_fit G.at.stood.rep.h x.used m.tokens m.sums g.side g.states G.w.table known G.at.stood.rep.progress
 
-    runs : Runs G.H G.w (nonemittingPass G.H G.w)
-    runs = pass-runs G.H (λ s a i. (G.ground.good.arc s a i).target) G.w (G.at.stood.rep.progress.size ∙ G.ground.states) costs G.none-queued G.none-requeued
+    runs : Runs G.H G.w (nonemitting_pass G.H G.w)
+    runs = pass_runs G.H (λ s a i. (G.ground.good.arc s a i).target) G.w (G.at.stood.rep.progress.size ∙ G.ground.states) costs G.none_queued G.none_requeued
 
-    ends_so : (m' : Lent) (qs' : List ℕ) (r : Passed) → EndedBy g m' qs' G.done (nonemittingPass G.H G.w) r → Nonemitted G m' qs' r
-    ends_so m' qs' r E = record { ends = E; emptied = runs-empty G.H G.w (nonemittingPass G.H G.w) runs }
+    ends_so : (m' : Lent) (qs' : List ℕ) (r : Passed) → EndedBy g m' qs' G.done (nonemitting_pass G.H G.w) r → Nonemitted G m' qs' r
+    ends_so m' qs' r E = record { ends = E; emptied = runs_empty G.H G.w (nonemitting_pass G.H G.w) runs }
 
     -- a push is refused
-    pub push-stops : (qs' : List ℕ) (r : Passed) (n : ℕ) → r ≡ Refused n → PassedBy g m qs' G.done G.p (pushesOf push-given) r → Nonemitted G m qs' (Refused n)
-    unfolding nonemittingPass
-    push-stops qs' r n e P = ends_so m qs' (Refused n) (go (pushesOf push-given) (subst (PassedBy g m qs' G.done G.p (pushesOf push-given)) e P))
+    pub push_stops : (qs' : List ℕ) (r : Passed) (n : ℕ) → r ≡ Refused n → PassedBy g m qs' G.done G.p (pushes_of push_given) r → Nonemitted G m qs' (Refused n)
+    unfolding nonemitting_pass
+    push_stops qs' r n e P = ends_so m qs' (Refused n) (go (pushes_of push_given) (subst (PassedBy g m qs' G.done G.p (pushes_of push_given)) e P))
       where
         go : (o : Outcome ModelWork) → PassedBy g m qs' G.done G.p o (Refused n) → EndedBy g m qs' G.done (o >>= λ v. drain (fuel G.H.graph) G.H v) (Refused n)
-        go o (passedRefused j d z) = endedRefused n d z
+        go o (passed_refused j d z) = ended_refused n d z
 
     -- all are pushed
-    module _ (qs' : List ℕ) (long : length qs' ≡ length qs) (r : Passed) (x' : Work) (e : r ≡ On x') (P : PassedBy g m qs' G.done G.p (pushesOf push-given) r) where
+    module _ (qs' : List ℕ) (long : length qs' ≡ length qs) (r : Passed) (x' : Work) (e : r ≡ On x') (P : PassedBy g m qs' G.done G.p (pushes_of push_given) r) where
       record Queue : Type 0 where
         v : ModelWork
         at : At g m qs' x' G.done G.p v
-        is : pushesOf push-given ≡ ok v
+        is : pushes_of push_given ≡ ok v
 
       queue : Queue
-      queue = go (pushesOf push-given) refl (subst (PassedBy g m qs' G.done G.p (pushesOf push-given)) e P)
+      queue = go (pushes_of push_given) refl (subst (PassedBy g m qs' G.done G.p (pushes_of push_given)) e P)
         where
-          go : (o : Outcome ModelWork) → pushesOf push-given ≡ o → PassedBy g m qs' G.done G.p o (On x') → Queue
-          go o q (passedOn {w} A) = record { v = w; at = A; is = q }
+          go : (o : Outcome ModelWork) → pushes_of push_given ≡ o → PassedBy g m qs' G.done G.p o (On x') → Queue
+          go o q (passed_on {w} A) = record { v = w; at = A; is = q }
 
       starts : Starts G.H.graph G.w queue.v
-      starts = subst (Ok (Starts G.H.graph G.w)) queue.is (push-starts G.H G.w)
+      starts = subst (Ok (Starts G.H.graph G.w)) queue.is (push_starts G.H G.w)
 
-      pub drain-given : DrainGiven g m qs' eps T x'
-      drain-given =
+      pub drain_given : DrainGiven g m qs' eps T x'
+      drain_given =
           record {
             H = G.H;
             w = queue.v;
@@ -119,7 +119,7 @@ module _ {g : Setting} {m : Lent} {qs eps : List ℕ} {T : Tables} {x : Work} (G
           }
 
       pub drained : (m' : Lent) (qs'' : List ℕ) (r' : Passed) → DrainIs g m m' qs' qs'' eps T x' r' → Nonemitted G m' qs'' r'
-      unfolding drain-given
+      unfolding drain_given
       drained m' qs'' r' D =
-          let d = D drain-given in
-          ends_so m' qs'' r' (subst (λ (o : Outcome ModelWork). EndedBy g m' qs'' G.done o r') (sym (runs-once G.H G.w queue.v (nonemittingPass G.H G.w) d.outcome runs queue.is d.loops)) d.ends)
+          let d = D drain_given in
+          ends_so m' qs'' r' (subst (λ (o : Outcome ModelWork). EndedBy g m' qs'' G.done o r') (sym (runs_once G.H G.w queue.v (nonemitting_pass G.H G.w) d.outcome runs queue.is d.loops)) d.ends)

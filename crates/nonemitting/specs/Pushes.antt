@@ -7,26 +7,26 @@ use Rattle.std.proofs.Math.Option.{Option, none, some}
 use Rattle.std.proofs.Math.ListN.{length, drop}
 use Rattle.std.proofs.Math.Seq.{drop-length}
 use Rattle.model.specs.Basics.{over, Outcome, ok, ◌>>=◌}
-use Rattle.model.specs.Graph.{hasEps}
+use Rattle.model.specs.Graph.{has_eps}
 use Rattle.model.specs.Path.{Path, Token, Table}
 use Rattle.model.specs.Arrive.{Here, Work as ModelWork, push}
-use Rattle.model.specs.Passes.{pushFrom}
+use Rattle.model.specs.Passes.{push_from}
 use Rattle.model.specs.Accepted.{Ok, branches}
 use Rattle.tokens.specs.Layout.{place_in, held_at, NextActive}
 use Rattle.stores.specs.Shown.{Shown}
-use Rattle.stores.specs.Tables.{active-at, skip-to}
+use Rattle.stores.specs.Tables.{active_at, skip_to}
 use Rattle.stores.specs.Rep.{Lent, lent}
 use Rattle.arrivals.specs.declared.Setting.{Setting}
 use Rattle.arcs.specs.declared.Work.{Work}
 use Rattle.arcs.specs.declared.Passed.{Passed}
 use Rattle.arcs.specs.declared.Passed.TheVariants.{Refused, On}
-use Rattle.arcs.specs.Passed.{Ground, At, PassedBy, passedRefused, passedOn, PushIs}
+use Rattle.arcs.specs.Passed.{Ground, At, PassedBy, passed_refused, passed_on, PushIs}
 use Rattle.arcs.specs.Finish.{pushed}
 
 -- one state, as the code has it
 pub data StatePushed (eps qs qs' : List ℕ) (x : Work) (s : ℕ) : Passed → Type 0 where
-  stateStays : get_or eps s 0 ≡ 0 → qs' ≡ qs → StatePushed eps qs qs' x s (On x)
-  statePushed : {r : Passed} → (get_or eps s 0 ≡ 0 → ⊥) → PushIs qs qs' x s r → StatePushed eps qs qs' x s r
+  state_stays : get_or eps s 0 ≡ 0 → qs' ≡ qs → StatePushed eps qs qs' x s (On x)
+  state_pushed : {r : Passed} → (get_or eps s 0 ≡ 0 → ⊥) → PushIs qs qs' x s r → StatePushed eps qs qs' x s r
 
 pub record PushGiven (g : Setting) (m : Lent) (qs eps : List ℕ) (x : Work) : Type 0 where
   pub H : Here
@@ -35,41 +35,41 @@ pub record PushGiven (g : Setting) (m : Lent) (qs eps : List ℕ) (x : Work) : T
   pub p : Path
   pub ground : Ground g H done eps (length qs)
   pub at : At g m qs x done p w
-  pub none-requeued : w.requeued ≡ []
+  pub none_requeued : w.requeued ≡ []
 
 -- what the definition gives
-abbrev pub pushesOf : {g : Setting} {m : Lent} {qs eps : List ℕ} {x : Work} → PushGiven g m qs eps x → Outcome ModelWork
-pushesOf G = pushFrom G.H 0 G.w.table G.w
+abbrev pub pushes_of : {g : Setting} {m : Lent} {qs eps : List ℕ} {x : Work} → PushGiven g m qs eps x → Outcome ModelWork
+pushes_of G = push_from G.H 0 G.w.table G.w
 
 abbrev pub PushesIs : (g : Setting) → (tokens qs qs' eps : List ℕ) → Work → Passed → Type 0
 PushesIs g tk qs qs' eps x r =
-    (sm : List Float) (rs : List ℕ) (rl : List ℤ) (gs : List Float) (G : PushGiven g (lent tk sm rs rl gs) qs eps x) → PassedBy g (lent tk sm rs rl gs) qs' G.done G.p (pushesOf G) r
+    (sm : List Float) (rs : List ℕ) (rl : List ℤ) (gs : List Float) (G : PushGiven g (lent tk sm rs rl gs) qs eps x) → PassedBy g (lent tk sm rs rl gs) qs' G.done G.p (pushes_of G) r
 
 -- ---- one state
 
-abbrev pushBy : Here → ℕ → ModelWork → Bool → Outcome ModelWork
-pushBy H s w b = elim b as (λ z. Outcome ModelWork) [ true ↦ push H s [] w | false ↦ ok w ]
+abbrev push_by : Here → ℕ → ModelWork → Bool → Outcome ModelWork
+push_by H s w b = elim b as (λ z. Outcome ModelWork) [ true ↦ push H s [] w | false ↦ ok w ]
 
-push-steps : (H : Here) (s : ℕ) (t : Token) (rest : Table) (w : ModelWork) → pushFrom H s (some t ∷ rest) w ≡ (pushBy H s w (hasEps H.graph s) >>= λ v. pushFrom H (suc s) rest v)
-unfolding pushFrom
-push-steps H s t rest w = go (hasEps H.graph s)
+push_steps : (H : Here) (s : ℕ) (t : Token) (rest : Table) (w : ModelWork) → push_from H s (some t ∷ rest) w ≡ (push_by H s w (has_eps H.graph s) >>= λ v. push_from H (suc s) rest v)
+unfolding push_from
+push_steps H s t rest w = go (has_eps H.graph s)
   where
-    go : (b : Bool) → elim b as (λ z. Outcome ModelWork) [ true ↦ push H s [] w >>= λ v. pushFrom H (suc s) rest v | false ↦ pushFrom H (suc s) rest w ] ≡ (pushBy H s w b >>= λ v. pushFrom H (suc s) rest v)
+    go : (b : Bool) → elim b as (λ z. Outcome ModelWork) [ true ↦ push H s [] w >>= λ v. push_from H (suc s) rest v | false ↦ push_from H (suc s) rest w ] ≡ (push_by H s w b >>= λ v. push_from H (suc s) rest v)
     go true = refl
     go false = refl
 
-push-skips : (H : Here) (w : ModelWork) (s : ℕ) (rest : Table) → pushFrom H s (none ∷ rest) w ≡ pushFrom H (suc s) rest w
-unfolding pushFrom
-push-skips H w s rest = refl
+push_skips : (H : Here) (w : ModelWork) (s : ℕ) (rest : Table) → push_from H s (none ∷ rest) w ≡ push_from H (suc s) rest w
+unfolding push_from
+push_skips H w s rest = refl
 
 -- after it no state is told as requeued
 abbrev Clean : Outcome ModelWork → Type 0
 Clean = Ok (λ (v : ModelWork). v.requeued ≡ [])
 
-push-clean : (H : Here) (s : ℕ) (w : ModelWork) → w.requeued ≡ [] → (b : Bool) → Clean (pushBy H s w b)
+push_clean : (H : Here) (s : ℕ) (w : ModelWork) → w.requeued ≡ [] → (b : Bool) → Clean (push_by H s w b)
 unfolding push
-push-clean H s w e true = branches (λ (v : ModelWork). v.requeued ≡ []) (over (suc (length w.queue)) H.limits.queue) _ _ (λ c. tt) (λ c. refl)
-push-clean H s w e false = e
+push_clean H s w e true = branches (λ (v : ModelWork). v.requeued ≡ []) (over (suc (length w.queue)) H.limits.queue) _ _ (λ c. tt) (λ c. refl)
+push_clean H s w e false = e
 
 with_none : (w : ModelWork) → w.requeued ≡ [] → w ≡ record { table = w.table; seq = w.seq; fresh = w.fresh; cutoff = w.cutoff; queue = w.queue; requeued = [] }
 with_none w e = λ i. record { table = w.table; seq = w.seq; fresh = w.fresh; cutoff = w.cutoff; queue = w.queue; requeued = e i }
@@ -88,54 +88,54 @@ module _ {g : Setting} {m : Lent} {qs eps : List ℕ} {x : Work} (G : PushGiven 
     pub w' : ModelWork
     pub at : At g m qs' x' G.done G.p w'
     pub clean : w'.requeued ≡ []
-    pub rest : pushesOf G ≡ pushFrom G.H s (drop s G.w.table) w'
+    pub rest : pushes_of G ≡ push_from G.H s (drop s G.w.table) w'
 
   -- on to the next active state
-  walk-on : {qs' : List ℕ} {x' : Work} {s r : ℕ} → NextActive m.tokens g.side s g.states r → SoFar qs' x' s → SoFar qs' x' r
-  walk-on {qs'} {x'} {s} {r} n F =
-      record { w' = F.w'; at = F.at; clean = F.clean; rest = F.rest ∙ skip-to shown (λ (i : ℕ) (ts : Table). pushFrom G.H i ts F.w') (push-skips G.H F.w') s r n }
+  walk_on : {qs' : List ℕ} {x' : Work} {s r : ℕ} → NextActive m.tokens g.side s g.states r → SoFar qs' x' s → SoFar qs' x' r
+  walk_on {qs'} {x'} {s} {r} n F =
+      record { w' = F.w'; at = F.at; clean = F.clean; rest = F.rest ∙ skip_to shown (λ (i : ℕ) (ts : Table). push_from G.H i ts F.w') (push_skips G.H F.w') s r n }
 
-  pub far-start : {r : ℕ} → NextActive m.tokens g.side 0 g.states r → SoFar qs x r
-  far-start n = walk-on n (record { w' = G.w; at = G.at; clean = G.none-requeued; rest = refl })
+  pub far_start : {r : ℕ} → NextActive m.tokens g.side 0 g.states r → SoFar qs x r
+  far_start n = walk_on n (record { w' = G.w; at = G.at; clean = G.none_requeued; rest = refl })
 
   module _ {qs' : List ℕ} {x' : Work} {s : ℕ} (F : SoFar qs' x' s) where
-    pub far-end : g.states ≤ s → s ≤ g.states → By qs' (pushesOf G) (On x')
-    unfolding pushFrom
-    far-end l k =
+    pub far_end : g.states ≤ s → s ≤ g.states → By qs' (pushes_of G) (On x')
+    unfolding push_from
+    far_end l k =
         let e : s ≡ length G.w.table = let z = shown.size in omega arith in
-        subst (λ (o : Outcome ModelWork). By qs' o (On x')) (sym (F.rest ∙ ap (λ (ts : Table). pushFrom G.H s ts F.w') (ap (λ (i : ℕ). drop i G.w.table) e ∙ drop-length G.w.table))) (passedOn F.at)
+        subst (λ (o : Outcome ModelWork). By qs' o (On x')) (sym (F.rest ∙ ap (λ (ts : Table). push_from G.H s ts F.w') (ap (λ (i : ℕ). drop i G.w.table) e ∙ drop-length G.w.table))) (passed_on F.at)
 
     module _ (low : s < g.states) (held : held_at m.tokens (place_in g.side s) ≡ 0 → ⊥) (k : length qs' ≡ length qs) {qs'' : List ℕ} {r : Passed} (step : StatePushed eps qs' qs'' x' s r) where
       abbrev stepped : Outcome ModelWork
-      stepped = pushBy G.H s F.w' (hasEps G.H.graph s)
+      stepped = push_by G.H s F.w' (has_eps G.H.graph s)
 
-      goes : pushesOf G ≡ (stepped >>= λ v. pushFrom G.H (suc s) (drop (suc s) G.w.table) v)
+      goes : pushes_of G ≡ (stepped >>= λ v. push_from G.H (suc s) (drop (suc s) G.w.table) v)
       goes =
-          let act = active-at shown s low held in
-          F.rest ∙ ap (λ (ts : Table). pushFrom G.H s ts F.w') (drop-cons G.w.table s none (let z = shown.size in omega arith) ∙ ap (λ (o : Option Token). o ∷ drop (suc s) G.w.table) act.at)
-          ∙ push-steps G.H s act.token (drop (suc s) G.w.table) F.w'
+          let act = active_at shown s low held in
+          F.rest ∙ ap (λ (ts : Table). push_from G.H s ts F.w') (drop-cons G.w.table s none (let z = shown.size in omega arith) ∙ ap (λ (o : Option Token). o ∷ drop (suc s) G.w.table) act.at)
+          ∙ push_steps G.H s act.token (drop (suc s) G.w.table) F.w'
 
-      told : {b : Bool} → ltb 0 (get_or eps s 0) ≡ b → stepped ≡ pushBy G.H s F.w' b
-      told e = ap (pushBy G.H s F.w') (sym (G.ground.eps-is s low) ∙ e)
+      told : {b : Bool} → ltb 0 (get_or eps s 0) ≡ b → stepped ≡ push_by G.H s F.w' b
+      told e = ap (push_by G.H s F.w') (sym (G.ground.eps_is s low) ∙ e)
 
       step_by : (r : Passed) → StatePushed eps qs' qs'' x' s r → By qs'' stepped r
-      step_by r (stateStays e q) =
-          subst (λ (o : Outcome ModelWork). By qs'' o (On x')) (sym (told (le-ltb 0 (get_or eps s 0) (omega arith)))) (subst (λ (z : List ℕ). By z (ok F.w') (On x')) (sym q) (passedOn F.at))
-      step_by r (statePushed d P) =
+      step_by r (state_stays e q) =
+          subst (λ (o : Outcome ModelWork). By qs'' o (On x')) (sym (told (le-ltb 0 (get_or eps s 0) (omega arith)))) (subst (λ (z : List ℕ). By z (ok F.w') (On x')) (sym q) (passed_on F.at))
+      step_by r (state_pushed d P) =
           subst (λ (o : Outcome ModelWork). By qs'' o r) (sym (told (lt-ltb 0 (get_or eps s 0) (omega arith))))
           (pushed G.ground qs' qs'' k x' s low [] F.w' (subst (λ (v : ModelWork). At g m qs' x' G.done G.p v) (with_none F.w' F.clean) F.at) r P)
 
-      next-by : (o : Outcome ModelWork) → Clean o → pushesOf G ≡ (o >>= λ v. pushFrom G.H (suc s) (drop (suc s) G.w.table) v) → (x'' : Work) → By qs'' o (On x'') → SoFar qs'' x'' (suc s)
-      next-by o c q x'' (passedOn {w} A) = record { w' = w; at = A; clean = c; rest = q }
+      next_by : (o : Outcome ModelWork) → Clean o → pushes_of G ≡ (o >>= λ v. push_from G.H (suc s) (drop (suc s) G.w.table) v) → (x'' : Work) → By qs'' o (On x'') → SoFar qs'' x'' (suc s)
+      next_by o c q x'' (passed_on {w} A) = record { w' = w; at = A; clean = c; rest = q }
 
-      stop-by : (o : Outcome ModelWork) → pushesOf G ≡ (o >>= λ v. pushFrom G.H (suc s) (drop (suc s) G.w.table) v) → (j : ℕ) → By qs'' o (Refused j) → By qs'' (pushesOf G) (Refused j)
-      stop-by o q j (passedRefused i d z) = subst (λ (u : Outcome ModelWork). By qs'' u (Refused j)) (sym q) (passedRefused j d z)
+      stop_by : (o : Outcome ModelWork) → pushes_of G ≡ (o >>= λ v. push_from G.H (suc s) (drop (suc s) G.w.table) v) → (j : ℕ) → By qs'' o (Refused j) → By qs'' (pushes_of G) (Refused j)
+      stop_by o q j (passed_refused i d z) = subst (λ (u : Outcome ModelWork). By qs'' u (Refused j)) (sym q) (passed_refused j d z)
 
-      pub far-stop : (j : ℕ) → r ≡ Refused j → By qs'' (pushesOf G) (Refused j)
-      far-stop j e = stop-by stepped goes j (step_by (Refused j) (subst (StatePushed eps qs' qs'' x' s) e step))
+      pub far_stop : (j : ℕ) → r ≡ Refused j → By qs'' (pushes_of G) (Refused j)
+      far_stop j e = stop_by stepped goes j (step_by (Refused j) (subst (StatePushed eps qs' qs'' x' s) e step))
 
-      pub far-next : (x'' : Work) → r ≡ On x'' → {b : ℕ} → NextActive m.tokens g.side (s + 1) g.states b → SoFar qs'' x'' b
-      far-next x'' e {b} next =
+      pub far_next : (x'' : Work) → r ≡ On x'' → {b : ℕ} → NextActive m.tokens g.side (s + 1) g.states b → SoFar qs'' x'' b
+      far_next x'' e {b} next =
           let one : s + 1 ≡ suc s = omega arith in
-          walk-on (subst (λ (i : ℕ). NextActive m.tokens g.side i g.states b) one next)
-          (next-by stepped (push-clean G.H s F.w' F.clean (hasEps G.H.graph s)) goes x'' (step_by (On x'') (subst (StatePushed eps qs' qs'' x' s) e step)))
+          walk_on (subst (λ (i : ℕ). NextActive m.tokens g.side i g.states b) one next)
+          (next_by stepped (push_clean G.H s F.w' F.clean (has_eps G.H.graph s)) goes x'' (step_by (On x'') (subst (StatePushed eps qs' qs'' x' s) e step)))

@@ -2,7 +2,7 @@
 ghost use Rattle.std.specs.Prelude.{◌*◌, ◌≤◌, ◌<◌, length};
 ghost use Rattle.nonemitting.specs.Pushes.{StatePushed, PushesIs};
 ghost use Rattle.stores.specs.Rep.{lent};
-ghost use Rattle.nonemitting.specs.Expand.{graphTables, ExpandGiven, ExpandIs};
+ghost use Rattle.nonemitting.specs.Expand.{graph_tables, ExpandGiven, ExpandIs};
 ghost use Rattle.nonemitting.specs.Drain.{DrainGiven, DrainIs};
 ghost use Rattle.nonemitting.specs.Pass.{NonemittingGiven, NonemittingIs};
 
@@ -64,8 +64,8 @@ fn expand(
     w: Work,
     s: u32,
 ) -> Passed
-    requires { ExpandGiven setting (lent tokens.old sums.old records.old labels.old gaps.old) queue.old eps.now (graphTables offsets.now ilabels.now olabels.now weights.now nextstates.now tid2pdf.now tid2phone.now) w s }
-    ensures { ExpandIs setting (lent tokens.old sums.old records.old labels.old gaps.old) (lent tokens.new sums.new records.new labels.new gaps.new) queue.old queue.new eps.now (graphTables offsets.now ilabels.now olabels.now weights.now nextstates.now tid2pdf.now tid2phone.now) w s result }
+    requires { ExpandGiven setting (lent tokens.old sums.old records.old labels.old gaps.old) queue.old eps.now (graph_tables offsets.now ilabels.now olabels.now weights.now nextstates.now tid2pdf.now tid2phone.now) w s }
+    ensures { ExpandIs setting (lent tokens.old sums.old records.old labels.old gaps.old) (lent tokens.new sums.new records.new labels.new gaps.new) queue.old queue.new eps.now (graph_tables offsets.now ilabels.now olabels.now weights.now nextstates.now tid2pdf.now tid2phone.now) w s result }
 {
     if !tokens::is_active(tokens, setting.side, s) {
         return Passed::On(w);
@@ -124,8 +124,8 @@ fn drain(
     setting: Setting,
     before: Work,
 ) -> Passed
-    requires { DrainGiven setting (lent tokens.old sums.old records.old labels.old gaps.old) queue.old eps.now (graphTables offsets.now ilabels.now olabels.now weights.now nextstates.now tid2pdf.now tid2phone.now) before }
-    ensures { DrainIs setting (lent tokens.old sums.old records.old labels.old gaps.old) (lent tokens.new sums.new records.new labels.new gaps.new) queue.old queue.new eps.now (graphTables offsets.now ilabels.now olabels.now weights.now nextstates.now tid2pdf.now tid2phone.now) before result }
+    requires { DrainGiven setting (lent tokens.old sums.old records.old labels.old gaps.old) queue.old eps.now (graph_tables offsets.now ilabels.now olabels.now weights.now nextstates.now tid2pdf.now tid2phone.now) before }
+    ensures { DrainIs setting (lent tokens.old sums.old records.old labels.old gaps.old) (lent tokens.new sums.new records.new labels.new gaps.new) queue.old queue.new eps.now (graph_tables offsets.now ilabels.now olabels.now weights.now nextstates.now tid2pdf.now tid2phone.now) before result }
 {
     let mut w = before;
     while 0 < w.queued {
@@ -168,8 +168,8 @@ pub fn nonemitting(
     setting: Setting,
     before: Work,
 ) -> Passed
-    requires { NonemittingGiven setting (lent tokens.old sums.old records.old labels.old gaps.old) queue.old eps.now (graphTables offsets.now ilabels.now olabels.now weights.now nextstates.now tid2pdf.now tid2phone.now) before }
-    ensures { NonemittingIs setting (lent tokens.old sums.old records.old labels.old gaps.old) (lent tokens.new sums.new records.new labels.new gaps.new) queue.old queue.new eps.now (graphTables offsets.now ilabels.now olabels.now weights.now nextstates.now tid2pdf.now tid2phone.now) before result }
+    requires { NonemittingGiven setting (lent tokens.old sums.old records.old labels.old gaps.old) queue.old eps.now (graph_tables offsets.now ilabels.now olabels.now weights.now nextstates.now tid2pdf.now tid2phone.now) before }
+    ensures { NonemittingIs setting (lent tokens.old sums.old records.old labels.old gaps.old) (lent tokens.new sums.new records.new labels.new gaps.new) queue.old queue.new eps.now (graph_tables offsets.now ilabels.now olabels.now weights.now nextstates.now tid2pdf.now tid2phone.now) before result }
 {
     match push_active(tokens, queue, eps, setting, before) {
         Passed::Refused(n) => Passed::Refused(n),

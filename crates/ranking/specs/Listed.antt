@@ -9,14 +9,14 @@ use Rattle.std.specs.Float.Ieee.{is_nan}
 use Rattle.std.specs.Float.Ieee.Scale.{finite}
 use Rattle.lists.specs.Lists.{◌∈◌}
 use Rattle.lists.specs.Tests.{case}
-use Rattle.tokens.specs.Layout.{cell_at, tokenOf, held_at, place_in, NextActive}
+use Rattle.tokens.specs.Layout.{cell_at, token_of, held_at, place_in, NextActive}
 use Rattle.tokens.specs.declared.Token.{Token as Stored}
 use Rattle.sorting.specs.Keyed.{Ascending}
 use Rattle.traceback.specs.declared.Candidate.{Candidate}
 use Rattle.traceback.specs.declared.Best.{Best}
 use Rattle.traceback.specs.declared.Best.TheVariants.{Nobody, Token}
 use Rattle.model.specs.Basics.{◌⊕◌}
-use Rattle.traceback.specs.Ranks.{weightIn, rankIn, candidateOf, candidateAt}
+use Rattle.traceback.specs.Ranks.{weight_in, rank_in, candidate_of, candidate_at}
 use Rattle.ranking.specs.Keys.{key_of}
 
 -- ---- the numbers below s that pass a test, ascending
@@ -29,13 +29,13 @@ one_from : (b : Bool) (i s : ℕ) → i ∈ cond b (s ∷ []) [] → (i ≡ s) �
 one_from true i s (here e) = (e, refl)
 
 module _ (p : ℕ → Bool) where
-  pub below-from : (s i : ℕ) → i ∈ below p s → (i < s) × (p i ≡ true)
-  below-from (suc s) i m =
-      case (Memᴰ.append_cases (below p s) m) (λ k. let (l, e) = below-from s i k in (omega arith, e)) (λ k. let (q, e) = one_from (p s) i s k in (omega arith, ap p q ∙ e))
+  pub below_from : (s i : ℕ) → i ∈ below p s → (i < s) × (p i ≡ true)
+  below_from (suc s) i m =
+      case (Memᴰ.append_cases (below p s) m) (λ k. let (l, e) = below_from s i k in (omega arith, e)) (λ k. let (q, e) = one_from (p s) i s k in (omega arith, ap p q ∙ e))
 
-  pub below-ascending : (s : ℕ) → Ascending (below p s)
-  below-ascending zero = tt
-  below-ascending (suc s) = go (below p s) (below-ascending s) (λ i m. (below-from s i m).0) (p s)
+  pub below_ascending : (s : ℕ) → Ascending (below p s)
+  below_ascending zero = tt
+  below_ascending (suc s) = go (below p s) (below_ascending s) (λ i m. (below_from s i m).0) (p s)
     where
       go : (is : List ℕ) → Ascending is → ((i : ℕ) → i ∈ is → i < s) → (b : Bool) → Ascending (is ++ cond b (s ∷ []) [])
       go [] a f true = (λ j m. elim m [ ], tt)
@@ -50,8 +50,8 @@ module _ (p : ℕ → Bool) where
       ap (below p) e ∙ rw (f (s + k) (omega arith) (omega arith)) (append-nil (below p (s + k)) ∙ skip_by k s (λ i a l. f i a (omega arith)))
 
   -- numbers that do not pass add nothing
-  pub below-skip : (s r : ℕ) → s ≤ r → ((i : ℕ) → s ≤ i → i < r → p i ≡ false) → below p r ≡ below p s
-  below-skip s r l f =
+  pub below_skip : (s r : ℕ) → s ≤ r → ((i : ℕ) → s ≤ i → i < r → p i ≡ false) → below p r ≡ below p s
+  below_skip s r l f =
       let e : r ≡ s + (r - s) = omega arith in
       ap (below p) e ∙ skip_by (r - s) s (λ i a k. f i a (omega arith))
 
@@ -61,62 +61,62 @@ abbrev pub counted : Best → Bool
 counted Nobody = false
 counted (Token c) = true
 
-abbrev pub keyIn : Best → List ℕ
-keyIn Nobody = []
-keyIn (Token c) = key_of c ∷ []
+abbrev pub key_in : Best → List ℕ
+key_in Nobody = []
+key_in (Token c) = key_of c ∷ []
 
-abbrev pub stateIn : Best → List ℕ
-stateIn Nobody = []
-stateIn (Token c) = c.state ∷ []
+abbrev pub state_in_lem : Best → List ℕ
+state_in_lem Nobody = []
+state_in_lem (Token c) = c.state ∷ []
 
 pub record PutAsks (keys order : List ℕ) (n : ℕ) (best : Best) : Type 0 where
-  pub keys-long : n < length keys
-  pub order-long : n < length order
+  pub keys_long : n < length keys
+  pub order_long : n < length order
   pub known : (c : Candidate) → best ≡ Token c → T (not (is_nan c.rank))
 
 pub record Put (keys keys' order order' : List ℕ) (n : ℕ) (best : Best) (r : ℕ) : Type 0 where
   pub few : r ≤ n + 1
-  pub keys-are : take r keys' ≡ take n keys ++ keyIn best
-  pub order-are : take r order' ≡ take n order ++ stateIn best
+  pub keys_are : take r keys' ≡ take n keys ++ key_in best
+  pub order_are : take r order' ≡ take n order ++ state_in_lem best
 
 module _ {keys order : List ℕ} {n : ℕ} {best : Best} where
-  pub put-nobody : best ≡ Nobody → Put keys keys order order n best n
-  put-nobody e = rw e record { few = omega arith; keys-are = sym (append-nil (take n keys)); order-are = sym (append-nil (take n order)) }
+  pub put_nobody : best ≡ Nobody → Put keys keys order order n best n
+  put_nobody e = rw e record { few = omega arith; keys_are = sym (append-nil (take n keys)); order_are = sym (append-nil (take n order)) }
 
-  pub put-token : (c : Candidate) (key : ℕ) → PutAsks keys order n best → best ≡ Token c → key ≡ key_of c → Put keys (set keys n key) order (set order n c.state) n best (n + 1)
-  put-token c key a e q =
-      rw (e, q, add-one n) record { few = omega arith; keys-are = take-suc-set keys n (key_of c) a.keys-long; order-are = take-suc-set order n c.state a.order-long }
+  pub put_token : (c : Candidate) (key : ℕ) → PutAsks keys order n best → best ≡ Token c → key ≡ key_of c → Put keys (set keys n key) order (set order n c.state) n best (n + 1)
+  put_token c key a e q =
+      rw (e, q, add-one n) record { few = omega arith; keys_are = take-suc-set keys n (key_of c) a.keys_long; order_are = take-suc-set order n c.state a.order_long }
 
 -- ---- the states whose tokens count
 
 -- whether a state has a token that counts
-abbrev pub countsAt : List ℕ → (sm fs : List Float) → (side : ℕ) → (counts : Bool) → ℕ → Bool
-countsAt tk sm fs b counts s = ltb 0 (held_at tk (place_in b s)) && counted (candidateAt tk sm fs b s counts)
+abbrev pub counts_at_lem : List ℕ → (sm fs : List Float) → (side : ℕ) → (counts : Bool) → ℕ → Bool
+counts_at_lem tk sm fs b counts s = ltb 0 (held_at tk (place_in b s)) && counted (candidate_at tk sm fs b s counts)
 
-abbrev pub keyOr : Best → ℕ
-keyOr Nobody = 0
-keyOr (Token c) = key_of c
+abbrev pub key_or : Best → ℕ
+key_or Nobody = 0
+key_or (Token c) = key_of c
 
 -- the key of a state whose token counts
 abbrev pub key_at : List ℕ → (sm fs : List Float) → (side : ℕ) → (counts : Bool) → ℕ → ℕ
-key_at tk sm fs b counts s = keyOr (candidateAt tk sm fs b s counts)
+key_at tk sm fs b counts s = key_or (candidate_at tk sm fs b s counts)
 
 -- the states below s whose tokens count are the first m, with their keys
 pub record Listed (tk : List ℕ) (sm fs : List Float) (b : ℕ) (counts : Bool) (s : ℕ) (keys order : List ℕ) (m : ℕ) : Type 0 where
   pub few : m ≤ s
-  pub keys-are : take m keys ≡ map (key_at tk sm fs b counts) (below (countsAt tk sm fs b counts) s)
-  pub order-are : take m order ≡ below (countsAt tk sm fs b counts) s
+  pub keys_are : take m keys ≡ map (key_at tk sm fs b counts) (below (counts_at_lem tk sm fs b counts) s)
+  pub order_are : take m order ≡ below (counts_at_lem tk sm fs b counts) s
 
 -- a candidate of a state is of that state
-state-of : (s : ℕ) (t : Stored) (w : Float) (counts : Bool) → stateIn (candidateOf s t w counts) ≡ cond (counted (candidateOf s t w counts)) (s ∷ []) []
-unfolding candidateOf
-state-of s t w counts = go (finite (t.cost ⊕ w)) (record { state = s; link = t.link; seq = t.seq; rank = rankIn (t.cost ⊕ w) t.graph w counts; cost = t.cost ⊕ w }) refl
+state_of_lem : (s : ℕ) (t : Stored) (w : Float) (counts : Bool) → state_in_lem (candidate_of s t w counts) ≡ cond (counted (candidate_of s t w counts)) (s ∷ []) []
+unfolding candidate_of
+state_of_lem s t w counts = go (finite (t.cost ⊕ w)) (record { state = s; link = t.link; seq = t.seq; rank = rank_in (t.cost ⊕ w) t.graph w counts; cost = t.cost ⊕ w }) refl
   where
-    go : (b : Bool) (c : Candidate) → c.state ≡ s → stateIn (cond b (Token c) Nobody) ≡ cond (counted (cond b (Token c) Nobody)) (s ∷ []) []
+    go : (b : Bool) (c : Candidate) → c.state ≡ s → state_in_lem (cond b (Token c) Nobody) ≡ cond (counted (cond b (Token c) Nobody)) (s ∷ []) []
     go true c e = ap (λ (i : ℕ). i ∷ []) e
     go false c e = refl
 
-keys_of : (best : Best) (f : ℕ → ℕ) (s : ℕ) → f s ≡ keyOr best → keyIn best ≡ map f (cond (counted best) (s ∷ []) [])
+keys_of : (best : Best) (f : ℕ → ℕ) (s : ℕ) → f s ≡ key_or best → key_in best ≡ map f (cond (counted best) (s ∷ []) [])
 keys_of Nobody f s e = refl
 keys_of (Token c) f s e = ap (λ (k : ℕ). k ∷ []) (sym e)
 
@@ -125,36 +125,36 @@ positive zero f = absurd (f refl)
 positive (suc n) f = omega arith
 
 -- of a state with a token
-pub counts-active : (tk : List ℕ) (sm fs : List Float) (b : ℕ) (counts : Bool) (s : ℕ) → (held_at tk (place_in b s) ≡ 0 → ⊥) → countsAt tk sm fs b counts s ≡ counted (candidateAt tk sm fs b s counts)
-counts-active tk sm fs b counts s d = ap (λ (x : Bool). x && counted (candidateAt tk sm fs b s counts)) (lt-ltb 0 (held_at tk (place_in b s)) (positive (held_at tk (place_in b s)) d))
+pub counts_active : (tk : List ℕ) (sm fs : List Float) (b : ℕ) (counts : Bool) (s : ℕ) → (held_at tk (place_in b s) ≡ 0 → ⊥) → counts_at_lem tk sm fs b counts s ≡ counted (candidate_at tk sm fs b s counts)
+counts_active tk sm fs b counts s d = ap (λ (x : Bool). x && counted (candidate_at tk sm fs b s counts)) (lt-ltb 0 (held_at tk (place_in b s)) (positive (held_at tk (place_in b s)) d))
 
 module _ {tk : List ℕ} {sm fs : List Float} {b : ℕ} {counts : Bool} where
-  pub listed-none : (keys order : List ℕ) → Listed tk sm fs b counts 0 keys order 0
-  listed-none keys order = record { few = omega arith; keys-are = refl; order-are = refl }
+  pub listed_none : (keys order : List ℕ) → Listed tk sm fs b counts 0 keys order 0
+  listed_none keys order = record { few = omega arith; keys_are = refl; order_are = refl }
 
   -- states with no token are passed over
-  pub listed-skip : {s n r m : ℕ} {keys order : List ℕ} → NextActive tk b s n r → Listed tk sm fs b counts s keys order m → Listed tk sm fs b counts r keys order m
-  listed-skip {s} {n} {r} {m} a l =
+  pub listed_skip : {s n r m : ℕ} {keys order : List ℕ} → NextActive tk b s n r → Listed tk sm fs b counts s keys order m → Listed tk sm fs b counts r keys order m
+  listed_skip {s} {n} {r} {m} a l =
       let z = a.from in
       let f = l.few in
-      let e : below (countsAt tk sm fs b counts) r ≡ below (countsAt tk sm fs b counts) s = below-skip (countsAt tk sm fs b counts) s r a.from (λ i g k. rw (a.none i g k)) in
-      record { few = omega arith; keys-are = rw e l.keys-are; order-are = rw e l.order-are }
+      let e : below (counts_at_lem tk sm fs b counts) r ≡ below (counts_at_lem tk sm fs b counts) s = below_skip (counts_at_lem tk sm fs b counts) s r a.from (λ i g k. rw (a.none i g k)) in
+      record { few = omega arith; keys_are = rw e l.keys_are; order_are = rw e l.order_are }
 
   -- a state with a token
-  pub listed-put : {s m r : ℕ} {keys keys' order order' : List ℕ} {best : Best} → (held_at tk (place_in b s) ≡ 0 → ⊥) → best ≡ candidateAt tk sm fs b s counts
+  pub listed_put : {s m r : ℕ} {keys keys' order order' : List ℕ} {best : Best} → (held_at tk (place_in b s) ≡ 0 → ⊥) → best ≡ candidate_at tk sm fs b s counts
       → Listed tk sm fs b counts s keys order m → Put keys keys' order order' m best r → Listed tk sm fs b counts (s + 1) keys' order' r
-  listed-put {s} {m} {r} {keys} {keys'} {order} {order'} {best} d e l p =
+  listed_put {s} {m} {r} {keys} {keys'} {order} {order'} {best} d e l p =
       rw (add-one s) record {
         few = let f = l.few in let g = p.few in omega arith;
-        keys-are = p.keys-are ∙ ap₂ (λ (xs ys : List ℕ). xs ++ ys) l.keys-are (ap keyIn e ∙ keys_of here-best key s refl ∙ ap (λ (x : Bool). map key (cond x (s ∷ []) [])) (sym (counts-active tk sm fs b counts s d))) ∙ sym (map-append key (below passes s) (cond (passes s) (s ∷ []) []));
-        order-are = p.order-are ∙ ap₂ (λ (xs ys : List ℕ). xs ++ ys) l.order-are (ap stateIn e ∙ state-of s (tokenOf (cell_at tk sm (place_in b s))) (weightIn fs s counts) counts ∙ ap (λ (x : Bool). cond x (s ∷ []) []) (sym (counts-active tk sm fs b counts s d)));
+        keys_are = p.keys_are ∙ ap₂ (λ (xs ys : List ℕ). xs ++ ys) l.keys_are (ap key_in e ∙ keys_of here_best key s refl ∙ ap (λ (x : Bool). map key (cond x (s ∷ []) [])) (sym (counts_active tk sm fs b counts s d))) ∙ sym (map-append key (below passes s) (cond (passes s) (s ∷ []) []));
+        order_are = p.order_are ∙ ap₂ (λ (xs ys : List ℕ). xs ++ ys) l.order_are (ap state_in_lem e ∙ state_of_lem s (token_of (cell_at tk sm (place_in b s))) (weight_in fs s counts) counts ∙ ap (λ (x : Bool). cond x (s ∷ []) []) (sym (counts_active tk sm fs b counts s d)));
       }
     where
-      here-best : Best
-      here-best = candidateAt tk sm fs b s counts
+      here_best : Best
+      here_best = candidate_at tk sm fs b s counts
 
       key : ℕ → ℕ
       key = key_at tk sm fs b counts
 
       passes : ℕ → Bool
-      passes = countsAt tk sm fs b counts
+      passes = counts_at_lem tk sm fs b counts

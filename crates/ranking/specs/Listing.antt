@@ -4,8 +4,8 @@ use Rattle.std.proofs.Common.{sym, ◌∙◌, subst, arith}
 use Rattle.tokens.specs.Layout.{held_at, place_in, NextActive}
 use Rattle.sorting.specs.Moves.{Kept, kept_then}
 use Rattle.traceback.specs.declared.Best.{Best}
-use Rattle.traceback.specs.Ranks.{candidateAt}
-use Rattle.ranking.specs.Listed.{PutAsks, Put, Listed, listed-none, listed-skip, listed-put}
+use Rattle.traceback.specs.Ranks.{candidate_at}
+use Rattle.ranking.specs.Listed.{PutAsks, Put, Listed, listed_none, listed_skip, listed_put}
 use Rattle.ranking.specs.Ranked.{RankAsks}
 
 -- At s, the next active state or the end: those below it are listed.
@@ -16,20 +16,20 @@ pub record Listing (tk : List ℕ) (sm fs : List Float) (b n : ℕ) (counts : Bo
   pub kept : Kept keys keys' order order'
 
 module _ {tk : List ℕ} {sm fs : List Float} {b n : ℕ} {counts : Bool} {keys order : List ℕ} where
-  pub listing-begun : {s : ℕ} → NextActive tk b 0 n s → Listing tk sm fs b n counts keys keys order order 0 s
-  listing-begun a = record { upto = a.upto; active = a.active; listed = listed-skip a (listed-none keys order); kept = record { keys_length = refl; items-length = refl } }
+  pub listing_begun : {s : ℕ} → NextActive tk b 0 n s → Listing tk sm fs b n counts keys keys order order 0 s
+  listing_begun a = record { upto = a.upto; active = a.active; listed = listed_skip a (listed_none keys order); kept = record { keys_length = refl; items-length = refl } }
 
   module _ {keys' order' : List ℕ} {m s : ℕ} (w : Listing tk sm fs b n counts keys keys' order order' m s) where
-    pub listing-done : n ≤ s → Listed tk sm fs b counts n keys' order' m
-    listing-done l = let u = w.upto in subst (λ (i : ℕ). Listed tk sm fs b counts i keys' order' m) (omega arith) w.listed
+    pub listing_done : n ≤ s → Listed tk sm fs b counts n keys' order' m
+    listing_done l = let u = w.upto in subst (λ (i : ℕ). Listed tk sm fs b counts i keys' order' m) (omega arith) w.listed
 
-    module _ {best : Best} (e : best ≡ candidateAt tk sm fs b s counts) (l : s < n) where
-      pub listing-asks : RankAsks tk sm fs b n counts keys order → PutAsks keys' order' m best
-      listing-asks a =
+    module _ {best : Best} (e : best ≡ candidate_at tk sm fs b s counts) (l : s < n) where
+      pub listing_asks : RankAsks tk sm fs b n counts keys order → PutAsks keys' order' m best
+      listing_asks a =
           let f = w.listed.few in
           let k = w.kept in
-          record { keys-long = omega (arith, a.keys-long); order-long = omega (arith, a.order-long); known = λ c q. a.known s l (w.active l) c (sym e ∙ q) }
+          record { keys_long = omega (arith, a.keys_long); order_long = omega (arith, a.order_long); known = λ c q. a.known s l (w.active l) c (sym e ∙ q) }
 
-      pub listing-on : {keys'' order'' : List ℕ} {r t : ℕ} → Kept keys' keys'' order' order'' → Put keys' keys'' order' order'' m best r → NextActive tk b (s + 1) n t → Listing tk sm fs b n counts keys keys'' order order'' r t
-      listing-on k p a =
-          record { upto = a.upto; active = a.active; listed = listed-skip a (listed-put (w.active l) e w.listed p); kept = kept_then w.kept k }
+      pub listing_on : {keys'' order'' : List ℕ} {r t : ℕ} → Kept keys' keys'' order' order'' → Put keys' keys'' order' order'' m best r → NextActive tk b (s + 1) n t → Listing tk sm fs b n counts keys keys'' order order'' r t
+      listing_on k p a =
+          record { upto = a.upto; active = a.active; listed = listed_skip a (listed_put (w.active l) e w.listed p); kept = kept_then w.kept k }

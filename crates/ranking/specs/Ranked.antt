@@ -2,26 +2,26 @@
 use Rattle.std.specs.Prelude.{◌≡◌, ℕ, ◌*◌, ◌≤◌, ◌<◌, Bool, not, cond, List, map, pos, T, length, get_or, take, Float}
 use Rattle.std.proofs.Math.Option.{Option, none, some}
 use Rattle.std.specs.Float.Ieee.{is_nan}
-use Rattle.lists.specs.Lists.{◌∈◌, sortBy}
+use Rattle.lists.specs.Lists.{◌∈◌, sort_by}
 use Rattle.model.specs.Basics.{0f}
-use Rattle.model.specs.Graph.{Graph, finalWeight}
-use Rattle.model.specs.Path.{emptyPath, Token, Table}
-use Rattle.model.specs.Reads.{Ranked, rankOne, rankFrom, sooner}
+use Rattle.model.specs.Graph.{Graph, final_weight}
+use Rattle.model.specs.Path.{empty_path, Token, Table}
+use Rattle.model.specs.Reads.{Ranked, rank_one, rank_from, sooner}
 use Rattle.tokens.specs.Layout.{held_at, place_in}
 use Rattle.records.specs.History.{History}
 use Rattle.stores.specs.Shown.{Shown}
 use Rattle.traceback.specs.declared.Candidate.{Candidate}
 use Rattle.traceback.specs.declared.Best.TheVariants.{Token as TokenOf}
-use Rattle.traceback.specs.Ranks.{candidateAt}
+use Rattle.traceback.specs.Ranks.{candidate_at}
 
 -- the token, where there is one
-abbrev pub tokenIn : Option Token → Token
-tokenIn none = record { cost = 0f; graph = 0f; path = emptyPath; phone = pos 0; seq = 0 }
-tokenIn (some t) = t
+abbrev pub token_in : Option Token → Token
+token_in none = record { cost = 0f; graph = 0f; path = empty_path; phone = pos 0; seq = 0 }
+token_in (some t) = t
 
 -- the token of an active state, ranked
 abbrev pub ranked_at : Graph → (counts : Bool) → Table → ℕ → Ranked
-ranked_at g counts ts s = rankOne counts (cond counts (finalWeight g s) 0f) (tokenIn (get_or ts s none))
+ranked_at g counts ts s = rank_one counts (cond counts (final_weight g s) 0f) (token_in (get_or ts s none))
 
 -- no token that counts has a NaN for its rank
 pub record RankAsks (tk : List ℕ) (sm fs : List Float) (b n : ℕ) (counts : Bool) (keys order : List ℕ) : Type 0 where
@@ -29,11 +29,11 @@ pub record RankAsks (tk : List ℕ) (sm fs : List Float) (b n : ℕ) (counts : B
   pub tokens : n * 8 ≤ length tk
   pub sums : n * 4 ≤ length sm
   pub finals : n ≤ length fs
-  pub keys-long : n ≤ length keys
-  pub order-long : n ≤ length order
-  pub known : (s : ℕ) → s < n → (held_at tk (place_in b s) ≡ 0 → ⊥) → (c : Candidate) → candidateAt tk sm fs b s counts ≡ TokenOf c → T (not (is_nan c.rank))
+  pub keys_long : n ≤ length keys
+  pub order_long : n ≤ length order
+  pub known : (s : ℕ) → s < n → (held_at tk (place_in b s) ≡ 0 → ⊥) → (c : Candidate) → candidate_at tk sm fs b s counts ≡ TokenOf c → T (not (is_nan c.rank))
 
 pub record RankedIs (tk : List ℕ) (sm fs : List Float) (b n : ℕ) (counts : Bool) (order : List ℕ) (m : ℕ) : Type 0 where
   pub few : m ≤ n
   pub each : (s : ℕ) → s ∈ take m order → (s < n) × (held_at tk (place_in b s) ≡ 0 → ⊥)
-  pub is : (g : Graph) → g.finals ≡ fs → (h : ℕ → History) (used : ℕ) (ts : Table) → Shown h used tk sm b n ts → map (ranked_at g counts ts) (take m order) ≡ sortBy sooner (rankFrom g counts 0 ts)
+  pub is : (g : Graph) → g.finals ≡ fs → (h : ℕ → History) (used : ℕ) (ts : Table) → Shown h used tk sm b n ts → map (ranked_at g counts ts) (take m order) ≡ sort_by sooner (rank_from g counts 0 ts)

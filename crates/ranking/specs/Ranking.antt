@@ -11,44 +11,44 @@ use Rattle.std.specs.Float.{binary32}
 use Rattle.std.specs.Float.Ieee.{fits}
 use Rattle.std.specs.Float.Ieee.Fits.{add-fits, sub-fits, cond-fits}
 use Rattle.std.specs.Float.Ieee.Scale.{finite}
-use Rattle.lists.specs.Lists.{◌∈◌, sortBy}
-use Rattle.lists.specs.Members.{sort-from, map-from, map-to}
-use Rattle.lists.specs.Tests.{case, eq-or-not, and_both}
+use Rattle.lists.specs.Lists.{◌∈◌, sort_by}
+use Rattle.lists.specs.Members.{sort_from, map_from, map_to}
+use Rattle.lists.specs.Tests.{case, eq_or_not, and_both}
 use Rattle.model.specs.Basics.{◌⊕◌, 0f}
-use Rattle.model.specs.Graph.{Graph, finalWeight}
+use Rattle.model.specs.Graph.{Graph, final_weight}
 use Rattle.model.specs.Path.{Token as Model, Table}
-use Rattle.model.specs.Reads.{Ranked, rankOne, rankFrom, sooner}
+use Rattle.model.specs.Reads.{Ranked, rank_one, rank_from, sooner}
 use Rattle.tokens.specs.declared.Token.{Token as Stored}
-use Rattle.tokens.specs.Layout.{cell_at, tokenOf, held_at, place_in}
-use Rattle.tokens.specs.Held.{some-held}
+use Rattle.tokens.specs.Layout.{cell_at, token_of, held_at, place_in}
+use Rattle.tokens.specs.Held.{some_held}
 use Rattle.records.specs.History.{History}
 use Rattle.stores.specs.Shown.{Shown}
-use Rattle.stores.specs.Tables.{vacant-at, active-at, stored_is}
+use Rattle.stores.specs.Tables.{vacant_at, active_at, stored_is}
 use Rattle.sorting.specs.Moves.{Lent, Kept}
 use Rattle.sorting.specs.Sorting.{Sorted}
-use Rattle.sorting.specs.Keyed.{sorted-keyed}
+use Rattle.sorting.specs.Keyed.{sorted_keyed}
 use Rattle.traceback.specs.declared.Candidate.{Candidate}
 use Rattle.traceback.specs.declared.Best.{Best}
 use Rattle.traceback.specs.declared.Best.TheVariants.{Nobody, Token}
-use Rattle.traceback.specs.Ranks.{weightIn, rankIn, candidateOf, candidateAt, CandidateIs}
-use Rattle.traceback.specs.Ranking.{candidate-is, tests_same, weight_is}
-use Rattle.ranking.specs.Keys.{Keyed, keys-compare}
-use Rattle.ranking.specs.Listed.{below, below-from, below-ascending, counted, countsAt, keyOr, key_at, Listed, counts-active}
-use Rattle.ranking.specs.Ranked.{tokenIn, ranked_at, RankAsks, RankedIs}
+use Rattle.traceback.specs.Ranks.{weight_in, rank_in, candidate_of, candidate_at, CandidateIs}
+use Rattle.traceback.specs.Ranking.{candidate_is, tests_same, weight_is}
+use Rattle.ranking.specs.Keys.{Keyed, keys_compare}
+use Rattle.ranking.specs.Listed.{below, below_from, below_ascending, counted, counts_at_lem, key_or, key_at, Listed, counts_active}
+use Rattle.ranking.specs.Ranked.{token_in, ranked_at, RankAsks, RankedIs}
 
 -- ---- a candidate's rank and seq
 
-rank-fits : (c graph w : Float) (counts : Bool) → T (fits binary32 c) → T (fits binary32 (rankIn c graph w counts))
-rank-fits c graph w counts f = cond-fits binary32 counts _ c (sub-fits binary32 c _) f
+rank_fits : (c graph w : Float) (counts : Bool) → T (fits binary32 c) → T (fits binary32 (rank_in c graph w counts))
+rank_fits c graph w counts f = cond-fits binary32 counts _ c (sub-fits binary32 c _) f
 
 -- a rank of f32 and a seq of u32
 abbrev Fitting : Best → Type 0
 Fitting Nobody = Unit {0}
 Fitting (Token c) = T (fits binary32 c.rank) × (c.seq < 2 ^ 32)
 
-candidate-fits : (s : ℕ) (t : Stored) (w : Float) (counts : Bool) → t.seq < 2 ^ 32 → Fitting (candidateOf s t w counts)
-unfolding candidateOf
-candidate-fits s t w counts l = go (finite (t.cost ⊕ w)) (record { state = s; link = t.link; seq = t.seq; rank = rankIn (t.cost ⊕ w) t.graph w counts; cost = t.cost ⊕ w }) (rank-fits (t.cost ⊕ w) t.graph w counts (add-fits binary32 t.cost w)) l
+candidate_fits : (s : ℕ) (t : Stored) (w : Float) (counts : Bool) → t.seq < 2 ^ 32 → Fitting (candidate_of s t w counts)
+unfolding candidate_of
+candidate_fits s t w counts l = go (finite (t.cost ⊕ w)) (record { state = s; link = t.link; seq = t.seq; rank = rank_in (t.cost ⊕ w) t.graph w counts; cost = t.cost ⊕ w }) (rank_fits (t.cost ⊕ w) t.graph w counts (add-fits binary32 t.cost w)) l
   where
     go : (b : Bool) (c : Candidate) → T (fits binary32 c.rank) → c.seq < 2 ^ 32 → Fitting (cond b (Token c) Nobody)
     go true c f l = (f, l)
@@ -61,30 +61,30 @@ module _ {h : ℕ → History} {used : ℕ} {tk : List ℕ} {sm fs : List Float}
     token : Model
     there : get_or ts s none ≡ some token
     candidate : Candidate
-    is : candidateAt tk sm fs b s counts ≡ cond (finite (ranked_at g counts ts s).cost) (Token candidate) Nobody
+    is : candidate_at tk sm fs b s counts ≡ cond (finite (ranked_at g counts ts s).cost) (Token candidate) Nobody
     same : CandidateIs h used n ts candidate (ranked_at g counts ts s)
 
-  at-active : (s : ℕ) → s < n → (held_at tk (place_in b s) ≡ 0 → ⊥) → At s
-  unfolding candidateOf rankOne
-  at-active s l d =
-      let a = active-at w s l d in
+  at_active : (s : ℕ) → s < n → (held_at tk (place_in b s) ≡ 0 → ⊥) → At s
+  unfolding candidate_of rank_one
+  at_active s l d =
+      let a = active_at w s l d in
       let y = a.stored in
-      let x = cond counts (finalWeight g s) 0f in
-      let r : ranked_at g counts ts s ≡ rankOne counts x a.token = ap (λ (o : Option Model). rankOne counts x (tokenIn o)) a.at in
+      let x = cond counts (final_weight g s) 0f in
+      let r : ranked_at g counts ts s ≡ rank_one counts x a.token = ap (λ (o : Option Model). rank_one counts x (token_in o)) a.at in
       record {
         token = a.token;
         there = a.at;
-        candidate = record { state = s; link = y.link; seq = y.seq; rank = rankIn (y.cost ⊕ x) y.graph x counts; cost = y.cost ⊕ x };
-        is = ap₂ (λ (t : Stored) (u : Float). candidateOf s t u counts) (stored_is w a) (weight_is g fs s counts q (omega arith))
-            ∙ ap (λ (c : Float). cond (finite c) (Token (record { state = s; link = y.link; seq = y.seq; rank = rankIn (y.cost ⊕ x) y.graph x counts; cost = y.cost ⊕ x })) Nobody) (ap (λ (c : Float). c ⊕ x) a.is.cost ∙ ap (λ (v : Ranked). v.cost) (sym r));
-        same = rw r (candidate-is h used n ts s l y a.token a.at a.is x counts);
+        candidate = record { state = s; link = y.link; seq = y.seq; rank = rank_in (y.cost ⊕ x) y.graph x counts; cost = y.cost ⊕ x };
+        is = ap₂ (λ (t : Stored) (u : Float). candidate_of s t u counts) (stored_is w a) (weight_is g fs s counts q (omega arith))
+            ∙ ap (λ (c : Float). cond (finite c) (Token (record { state = s; link = y.link; seq = y.seq; rank = rank_in (y.cost ⊕ x) y.graph x counts; cost = y.cost ⊕ x })) Nobody) (ap (λ (c : Float). c ⊕ x) a.is.cost ∙ ap (λ (v : Ranked). v.cost) (sym r));
+        same = rw r (candidate_is h used n ts s l y a.token a.at a.is x counts);
       }
 
   abbrev stands : ℕ → Ranked
   stands = ranked_at g counts ts
 
   abbrev passes : ℕ → Bool
-  passes = countsAt tk sm fs b counts
+  passes = counts_at_lem tk sm fs b counts
 
   counted_if : (f : Bool) (c : Candidate) → counted (cond f (Token c) Nobody) ≡ f
   counted_if true c = refl
@@ -96,92 +96,92 @@ module _ {h : ℕ → History} {used : ℕ} {tk : List ℕ} {sm fs : List Float}
   one_more s true rest = refl
   one_more s false rest = refl
 
-  from-token : (s : ℕ) (t : Model) (o : Option Model) (rest : Table) → o ≡ some t
-      → rankFrom g counts s (o ∷ rest) ≡ (let r = rankOne counts (cond counts (finalWeight g s) 0f) (tokenIn o) in cond (finite r.cost) (r ∷ rankFrom g counts (suc s) rest) (rankFrom g counts (suc s) rest))
-  unfolding rankFrom
-  from-token s t o rest e = rw e
+  from_token : (s : ℕ) (t : Model) (o : Option Model) (rest : Table) → o ≡ some t
+      → rank_from g counts s (o ∷ rest) ≡ (let r = rank_one counts (cond counts (final_weight g s) 0f) (token_in o) in cond (finite r.cost) (r ∷ rank_from g counts (suc s) rest) (rank_from g counts (suc s) rest))
+  unfolding rank_from
+  from_token s t o rest e = rw e
 
-  ranked-step : (s : ℕ) → s < n → map stands (cond (passes s) (s ∷ []) []) ++ rankFrom g counts (suc s) (drop (suc s) ts) ≡ rankFrom g counts s (drop s ts)
-  unfolding rankFrom
-  ranked-step s l =
-      let rest = rankFrom g counts (suc s) (drop (suc s) ts) in
+  ranked_step : (s : ℕ) → s < n → map stands (cond (passes s) (s ∷ []) []) ++ rank_from g counts (suc s) (drop (suc s) ts) ≡ rank_from g counts s (drop s ts)
+  unfolding rank_from
+  ranked_step s l =
+      let rest = rank_from g counts (suc s) (drop (suc s) ts) in
       let d : drop s ts ≡ get_or ts s none ∷ drop (suc s) ts = drop-cons ts s none (let z = w.size in omega arith) in
-      case (eq-or-not (held_at tk (place_in b s)) 0) (λ e. rw (e, d, vacant-at w s l e))
+      case (eq_or_not (held_at tk (place_in b s)) 0) (λ e. rw (e, d, vacant_at w s l e))
       (λ e.
-      let a = at-active s l e in
-      let p : passes s ≡ finite (stands s).cost = counts-active tk sm fs b counts s e ∙ ap counted a.is ∙ counted_if (finite (stands s).cost) a.candidate in
-      one_more s (passes s) rest ∙ ap (λ (f : Bool). cond f (stands s ∷ rest) rest) p ∙ sym (from-token s a.token (get_or ts s none) (drop (suc s) ts) a.there) ∙ ap (rankFrom g counts s) (sym d))
+      let a = at_active s l e in
+      let p : passes s ≡ finite (stands s).cost = counts_active tk sm fs b counts s e ∙ ap counted a.is ∙ counted_if (finite (stands s).cost) a.candidate in
+      one_more s (passes s) rest ∙ ap (λ (f : Bool). cond f (stands s ∷ rest) rest) p ∙ sym (from_token s a.token (get_or ts s none) (drop (suc s) ts) a.there) ∙ ap (rank_from g counts s) (sym d))
 
-  ranked-upto : (s : ℕ) → s ≤ n → map stands (below passes s) ++ rankFrom g counts s (drop s ts) ≡ rankFrom g counts 0 ts
-  ranked-upto zero l = refl
-  ranked-upto (suc s) l =
+  ranked_upto : (s : ℕ) → s ≤ n → map stands (below passes s) ++ rank_from g counts s (drop s ts) ≡ rank_from g counts 0 ts
+  ranked_upto zero l = refl
+  ranked_upto (suc s) l =
       let one = cond (passes s) (s ∷ []) [] in
-      let rest = rankFrom g counts (suc s) (drop (suc s) ts) in
+      let rest = rank_from g counts (suc s) (drop (suc s) ts) in
       ap (λ (rs : List Ranked). rs ++ rest) (map-append stands (below passes s) one) ∙ append_assoc (map stands (below passes s)) (map stands one) rest
-      ∙ ap (λ (rs : List Ranked). map stands (below passes s) ++ rs) (ranked-step s (omega arith)) ∙ ranked-upto s (omega arith)
+      ∙ ap (λ (rs : List Ranked). map stands (below passes s) ++ rs) (ranked_step s (omega arith)) ∙ ranked_upto s (omega arith)
 
-  ranked-all : map stands (below passes n) ≡ rankFrom g counts 0 ts
-  unfolding rankFrom
-  ranked-all =
+  ranked_all : map stands (below passes n) ≡ rank_from g counts 0 ts
+  unfolding rank_from
+  ranked_all =
       let e : drop n ts ≡ [] = drop_of_length-le ts {i = n} (let z = w.size in omega arith) in
-      sym (append-nil (map stands (below passes n))) ∙ ap (λ (rs : Table). map stands (below passes n) ++ rankFrom g counts n rs) (sym e) ∙ ranked-upto n (omega arith)
+      sym (append-nil (map stands (below passes n))) ∙ ap (λ (rs : Table). map stands (below passes n) ++ rank_from g counts n rs) (sym e) ∙ ranked_upto n (omega arith)
 
   -- ---- their keys compare as they do
 
   module _ {keys order : List ℕ} (asks : RankAsks tk sm fs b n counts keys order) (small : (i : ℕ) → get_or tk i 0 < 2 ^ 32) where
     record Counts (s : ℕ) : Type 0 where
       candidate : Candidate
-      is : candidateAt tk sm fs b s counts ≡ Token candidate
+      is : candidate_at tk sm fs b s counts ≡ Token candidate
       same : CandidateIs h used n ts candidate (stands s)
       keyed : Keyed candidate
 
-    counts-at : (s : ℕ) → s ∈ below passes n → Counts s
+    counts_at : (s : ℕ) → s ∈ below passes n → Counts s
     unfolding cell_at
-    counts-at s m =
-        let (l, e) = below-from passes n s m in
-        let (x, y) = and_both (ltb 0 (held_at tk (place_in b s))) (counted (candidateAt tk sm fs b s counts)) e in
-        let d = some-held (held_at tk (place_in b s)) x in
-        let a = at-active s l d in
+    counts_at s m =
+        let (l, e) = below_from passes n s m in
+        let (x, y) = and_both (ltb 0 (held_at tk (place_in b s))) (counted (candidate_at tk sm fs b s counts)) e in
+        let d = some_held (held_at tk (place_in b s)) x in
+        let a = at_active s l d in
         let f : finite (stands s).cost ≡ true = sym (counted_if (finite (stands s).cost) a.candidate) ∙ sym (ap counted a.is) ∙ y in
-        let i : candidateAt tk sm fs b s counts ≡ Token a.candidate = a.is ∙ ap (λ (z : Bool). cond z (Token a.candidate) Nobody) f in
-        let k : Fitting (Token a.candidate) = subst Fitting i (candidate-fits s (tokenOf (cell_at tk sm (place_in b s))) (weightIn fs s counts) counts (small (place_in b s * 4 + 1))) in
-        record { candidate = a.candidate; is = i; same = a.same; keyed = record { rank-fits = k.0; rank-known = asks.known s l d a.candidate i; seq-fits = k.1 } }
+        let i : candidate_at tk sm fs b s counts ≡ Token a.candidate = a.is ∙ ap (λ (z : Bool). cond z (Token a.candidate) Nobody) f in
+        let k : Fitting (Token a.candidate) = subst Fitting i (candidate_fits s (token_of (cell_at tk sm (place_in b s))) (weight_in fs s counts) counts (small (place_in b s * 4 + 1))) in
+        record { candidate = a.candidate; is = i; same = a.same; keyed = record { rank_fits = k.0; rank_known = asks.known s l d a.candidate i; seq_fits = k.1 } }
 
     compares : (i j : ℕ) → i ∈ below passes n → j ∈ below passes n → sooner (stands i) (stands j) ≡ ltb (key_at tk sm fs b counts i) (key_at tk sm fs b counts j)
     compares i j m k =
-        let x = counts-at i m in
-        let y = counts-at j k in
-        sym (tests_same h used n ts y.candidate x.candidate (stands j) (stands i) y.same x.same) ∙ keys-compare x.candidate y.candidate x.keyed y.keyed ∙ ap₂ (λ (p q : Best). ltb (keyOr p) (keyOr q)) (sym x.is) (sym y.is)
+        let x = counts_at i m in
+        let y = counts_at j k in
+        sym (tests_same h used n ts y.candidate x.candidate (stands j) (stands i) y.same x.same) ∙ keys_compare x.candidate y.candidate x.keyed y.keyed ∙ ap₂ (λ (p q : Best). ltb (key_or p) (key_or q)) (sym x.is) (sym y.is)
 
 -- ---- the listed states, sorted
 
 module _ {tk : List ℕ} {sm fs : List Float} {b n : ℕ} {counts : Bool} {keys₀ keys keys' order₀ order order' : List ℕ} {m : ℕ} (asks : RankAsks tk sm fs b n counts keys₀ order₀) (small : (i : ℕ) → get_or tk i 0 < 2 ^ 32)
     (l : Listed tk sm fs b counts n keys order m) (kept : Kept keys₀ keys' order₀ order') (sorted : Sorted keys keys' order order' m) where
   abbrev listed : List ℕ
-  listed = below (countsAt tk sm fs b counts) n
+  listed = below (counts_at_lem tk sm fs b counts) n
 
   lent : Lent keys' order' m
   lent =
       let f = l.few in
       let k = kept in
-      record { keys-long = omega (arith, asks.keys-long); items-long = omega (arith, asks.order-long) }
+      record { keys_long = omega (arith, asks.keys_long); items_long = omega (arith, asks.order_long) }
 
-  sorted-each : (s : ℕ) → s ∈ take m order' → s ∈ listed
-  sorted-each s k =
+  sorted_each : (s : ℕ) → s ∈ take m order' → s ∈ listed
+  sorted_each s k =
       let key = key_at tk sm fs b counts in
       let before : ℕ → ℕ → Bool = λ i j. ltb (key i) (key j) in
-      let e = sorted-keyed (λ (i : ℕ). i) key before listed (below-ascending (countsAt tk sm fs b counts) n) (λ i j p q. refl) l.keys-are l.order-are lent sorted in
-      let (i, p, f) = map-from (λ (i : ℕ). i) listed s (sort-from before (map (λ (i : ℕ). i) listed) s (subst (λ (is : List ℕ). s ∈ is) e (map-to (λ (i : ℕ). i) (take m order') s k))) in
+      let e = sorted_keyed (λ (i : ℕ). i) key before listed (below_ascending (counts_at_lem tk sm fs b counts) n) (λ i j p q. refl) l.keys_are l.order_are lent sorted in
+      let (i, p, f) = map_from (λ (i : ℕ). i) listed s (sort_from before (map (λ (i : ℕ). i) listed) s (subst (λ (is : List ℕ). s ∈ is) e (map_to (λ (i : ℕ). i) (take m order') s k))) in
       subst (λ (j : ℕ). j ∈ listed) (sym f) p
 
-  pub ranked-is : RankedIs tk sm fs b n counts order' m
-  ranked-is =
+  pub ranked_is : RankedIs tk sm fs b n counts order' m
+  ranked_is =
       record {
         few = l.few;
         each = λ s k.
-            let (i, e) = below-from (countsAt tk sm fs b counts) n s (sorted-each s k) in
-            (i, some-held (held_at tk (place_in b s)) (and_both (ltb 0 (held_at tk (place_in b s))) (counted (candidateAt tk sm fs b s counts)) e).0);
+            let (i, e) = below_from (counts_at_lem tk sm fs b counts) n s (sorted_each s k) in
+            (i, some_held (held_at tk (place_in b s)) (and_both (ltb 0 (held_at tk (place_in b s))) (counted (candidate_at tk sm fs b s counts)) e).0);
         is = λ g q h used ts w.
-            sorted-keyed (ranked_at g counts ts) (key_at tk sm fs b counts) sooner listed (below-ascending (countsAt tk sm fs b counts) n) (compares w g q asks.finals counts asks small) l.keys-are l.order-are lent sorted
-            ∙ ap (sortBy sooner) (ranked-all w g q asks.finals counts);
+            sorted_keyed (ranked_at g counts ts) (key_at tk sm fs b counts) sooner listed (below_ascending (counts_at_lem tk sm fs b counts) n) (compares w g q asks.finals counts asks small) l.keys_are l.order_are lent sorted
+            ∙ ap (sort_by sooner) (ranked_all w g q asks.finals counts);
       }

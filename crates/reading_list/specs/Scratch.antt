@@ -11,17 +11,17 @@ pub record Scratch : Type 0 where
   pub list : List ℕ
   pub lists : List ℕ
   pub route : List ℕ
-  pub history-keys : List ℕ
-  pub history-skips : List ℕ
-  pub entry-hashes : List ℕ
-  pub entry-nexts : List ℕ
-  pub entry-sums : List Float
-  pub kept-hashes : List ℕ
-  pub kept-links : List ℕ
-  pub kept-sums : List Float
+  pub history_keys : List ℕ
+  pub history_skips : List ℕ
+  pub entry_hashes : List ℕ
+  pub entry_nexts : List ℕ
+  pub entry_sums : List Float
+  pub kept_hashes : List ℕ
+  pub kept_links : List ℕ
+  pub kept_sums : List Float
   pub order : List ℕ
 
-abbrev pub scratch : (keys places own heads list lists route history-keys history-skips entry-hashes entry-nexts : List ℕ) → (entry-sums : List Float) → (kept-hashes kept-links : List ℕ) → (kept-sums : List Float) → (order : List ℕ) → Scratch
+abbrev pub scratch : (keys places own heads list lists route history_keys history_skips entry_hashes entry_nexts : List ℕ) → (entry_sums : List Float) → (kept_hashes kept_links : List ℕ) → (kept_sums : List Float) → (order : List ℕ) → Scratch
 scratch ks ps os hs ls bs rt hk hc eh en ex kh kl kx ord =
     record {
       keys = ks;
@@ -31,14 +31,14 @@ scratch ks ps os hs ls bs rt hk hc eh en ex kh kl kx ord =
       list = ls;
       lists = bs;
       route = rt;
-      history-keys = hk;
-      history-skips = hc;
-      entry-hashes = eh;
-      entry-nexts = en;
-      entry-sums = ex;
-      kept-hashes = kh;
-      kept-links = kl;
-      kept-sums = kx;
+      history_keys = hk;
+      history_skips = hc;
+      entry_hashes = eh;
+      entry_nexts = en;
+      entry_sums = ex;
+      kept_hashes = kh;
+      kept_links = kl;
+      kept_sums = kx;
       order = ord;
     }
 
@@ -50,18 +50,18 @@ pub record ScratchLeft (w w' : Scratch) : Type 0 where
   pub list : LeftToProgram w.list w'.list
   pub lists : LeftToProgram w.lists w'.lists
   pub route : LeftToProgram w.route w'.route
-  pub history-keys : LeftToProgram w.history-keys w'.history-keys
-  pub history-skips : LeftToProgram w.history-skips w'.history-skips
-  pub entry-hashes : LeftToProgram w.entry-hashes w'.entry-hashes
-  pub entry-nexts : LeftToProgram w.entry-nexts w'.entry-nexts
-  pub entry-sums : LeftToProgram w.entry-sums w'.entry-sums
-  pub kept-hashes : LeftToProgram w.kept-hashes w'.kept-hashes
-  pub kept-links : LeftToProgram w.kept-links w'.kept-links
-  pub kept-sums : LeftToProgram w.kept-sums w'.kept-sums
+  pub history_keys : LeftToProgram w.history_keys w'.history_keys
+  pub history_skips : LeftToProgram w.history_skips w'.history_skips
+  pub entry_hashes : LeftToProgram w.entry_hashes w'.entry_hashes
+  pub entry_nexts : LeftToProgram w.entry_nexts w'.entry_nexts
+  pub entry_sums : LeftToProgram w.entry_sums w'.entry_sums
+  pub kept_hashes : LeftToProgram w.kept_hashes w'.kept_hashes
+  pub kept_links : LeftToProgram w.kept_links w'.kept_links
+  pub kept_sums : LeftToProgram w.kept_sums w'.kept_sums
   pub order : LeftToProgram w.order w'.order
 
-pub used-self : {E : Type 0} (w : Scratch) → Used ScratchLeft E w w
-used-self w =
+pub used_self : {E : Type 0} (w : Scratch) → Used ScratchLeft E w w
+used_self w =
     record {
       left = record {
         keys = record { same_length = refl };
@@ -71,18 +71,18 @@ used-self w =
         list = record { same_length = refl };
         lists = record { same_length = refl };
         route = record { same_length = refl };
-        history-keys = record { same_length = refl };
-        history-skips = record { same_length = refl };
-        entry-hashes = record { same_length = refl };
-        entry-nexts = record { same_length = refl };
-        entry-sums = record { same_length = refl };
-        kept-hashes = record { same_length = refl };
-        kept-links = record { same_length = refl };
-        kept-sums = record { same_length = refl };
+        history_keys = record { same_length = refl };
+        history_skips = record { same_length = refl };
+        entry_hashes = record { same_length = refl };
+        entry_nexts = record { same_length = refl };
+        entry_sums = record { same_length = refl };
+        kept_hashes = record { same_length = refl };
+        kept_links = record { same_length = refl };
+        kept_sums = record { same_length = refl };
         order = record { same_length = refl };
       };
       untouched = λ h. refl;
     }
 
-pub used-late : {listed max : ℕ} {w w' : Scratch} → listed ≤ 64 → max ≤ 64 → ScratchLeft w w' → Used ScratchLeft ((64 < listed) ⊎ (64 < max)) w w'
-used-late few less l = record { left = l; untouched = λ h. elim h [ inl i ↦ absurd (omega arith) | inr i ↦ absurd (omega arith) ] }
+pub used_late : {listed max : ℕ} {w w' : Scratch} → listed ≤ 64 → max ≤ 64 → ScratchLeft w w' → Used ScratchLeft ((64 < listed) ⊎ (64 < max)) w w'
+used_late few less l = record { left = l; untouched = λ h. elim h [ inl i ↦ absurd (omega arith) | inr i ↦ absurd (omega arith) ] }

@@ -4,41 +4,41 @@ use Rattle.std.proofs.Math.Path.{refl, ap₂}
 use Rattle.std.proofs.Common.{◌∙◌, ap, subst, arith, lt-ltb, le-ltb}
 use Rattle.std.proofs.Math.Option.{Option}
 use Rattle.model.specs.Basics.{refuse, first_of, over}
-use Rattle.model.specs.Reads.{traceGroups, Group, useFinals}
+use Rattle.model.specs.Reads.{trace_groups, Group, use_finals}
 use Rattle.model.specs.Readings.{readings}
-use Rattle.model.specs.Calls.{readingsAnswer, reading_of, short, unless, readReadings}
+use Rattle.model.specs.Calls.{readings_answer, reading_of, short, unless, read_readings}
 use Rattle.traceback.specs.Table.{FinalsCount}
 use Rattle.listing_laws.specs.Situation.{Situation}
 use Rattle.listing.specs.declared.Listing.{Listing}
 use Rattle.listing.specs.declared.Listing.TheVariants.{Full, Items}
-use Rattle.listing.specs.Listed.{Scratch, ListingAsks, overfull, ListIs, ListingIs, isFull, areItems}
+use Rattle.listing.specs.Listed.{Scratch, ListingAsks, overfull, ListIs, ListingIs, is_full, are_items}
 use Rattle.reading_list.specs.declared.ReadingList.{ReadingList}
 use Rattle.reading_list.specs.declared.ReadingList.TheVariants.{Refused}
-use Rattle.reading_list.specs.Outputs.{Outputs, placesIn}
-use Rattle.reading_list.specs.Right.{readingsRefused, ReadingsRight}
-use Rattle.reading_list.specs.Lines.{view, ListAsks, ListWritten, noRoom, areWritten}
-use Rattle.reading_list.specs.Groups.{link-is, even_is, item-is}
-use Rattle.reading_list.specs.Answers.{answer-is, readings-are-listed}
+use Rattle.reading_list.specs.Outputs.{Outputs, places_in}
+use Rattle.reading_list.specs.Right.{readings_refused, ReadingsRight}
+use Rattle.reading_list.specs.Lines.{view, ListAsks, ListWritten, no_room, are_written}
+use Rattle.reading_list.specs.Groups.{link_is, even_is, item_is}
+use Rattle.reading_list.specs.Answers.{answer_is, readings_are_listed}
 
 -- what has two places for each record has one
-pub count-places : {n a b : ℕ} → n * 2 ≤ a → b ≡ a → n ≤ b
-count-places l e = omega arith
+pub count_places : {n a b : ℕ} → n * 2 ≤ a → b ≡ a → n ≤ b
+count_places l e = omega arith
 
 -- ---- more than 64
 
-module _ {tk : List ℕ} {sm fs : List Float} {rs : List ℕ} {ls : List ℤ} {gs : List Float} {n b used : ℕ} {keeps : Bool} {margin : Float} {decoded : ℕ} {use-final : Bool} {listed max entries kept : ℕ} {o : Outputs} where
-  pub too_many : (ltb 64 listed || ltb 64 max) ≡ true → ReadingsRight tk sm fs rs ls gs n b used keeps margin decoded use-final listed max entries kept o o (Refused 6)
-  unfolding readReadings
-  too_many e = record { answer = λ S q l h. readingsRefused 6 (rw e) refl }
+module _ {tk : List ℕ} {sm fs : List Float} {rs : List ℕ} {ls : List ℤ} {gs : List Float} {n b used : ℕ} {keeps : Bool} {margin : Float} {decoded : ℕ} {use_final : Bool} {listed max entries kept : ℕ} {o : Outputs} where
+  pub too_many_lem : (ltb 64 listed || ltb 64 max) ≡ true → ReadingsRight tk sm fs rs ls gs n b used keeps margin decoded use_final listed max entries kept o o (Refused 6)
+  unfolding read_readings
+  too_many_lem e = record { answer = λ S q l h. readings_refused 6 (rw e) refl }
 
-pub many-listed : (listed max : ℕ) → 64 < listed → (ltb 64 listed || ltb 64 max) ≡ true
-many-listed listed max l = ap (λ (x : Bool). x || ltb 64 max) (lt-ltb 64 listed l)
+pub many_listed : (listed max : ℕ) → 64 < listed → (ltb 64 listed || ltb 64 max) ≡ true
+many_listed listed max l = ap (λ (x : Bool). x || ltb 64 max) (lt-ltb 64 listed l)
 
-pub many-traced : (listed max : ℕ) → listed ≤ 64 → 64 < max → (ltb 64 listed || ltb 64 max) ≡ true
-many-traced listed max l m = ap₂ (λ (x y : Bool). x || y) (le-ltb 64 listed l) (lt-ltb 64 max m)
+pub many_traced : (listed max : ℕ) → listed ≤ 64 → 64 < max → (ltb 64 listed || ltb 64 max) ≡ true
+many_traced listed max l m = ap₂ (λ (x y : Bool). x || y) (le-ltb 64 listed l) (lt-ltb 64 max m)
 
-not-many : (listed max : ℕ) → listed ≤ 64 → max ≤ 64 → (ltb 64 listed || ltb 64 max) ≡ false
-not-many listed max l m = ap₂ (λ (x y : Bool). x || y) (le-ltb 64 listed l) (le-ltb 64 max m)
+not_many : (listed max : ℕ) → listed ≤ 64 → max ≤ 64 → (ltb 64 listed || ltb 64 max) ≡ false
+not_many listed max l m = ap₂ (λ (x y : Bool). x || y) (le-ltb 64 listed l) (le-ltb 64 max m)
 
 -- ---- the list
 
@@ -46,50 +46,50 @@ not-many listed max l m = ap₂ (λ (x y : Bool). x || y) (le-ltb 64 listed l) (
 pub record ItemsAre (tk : List ℕ) (sm fs : List Float) (rs : List ℕ) (ls : List ℤ) (gs : List Float) (n b used : ℕ) (keeps : Bool) (margin : Float) (counts : Bool) (listed entries kept : ℕ) (hs ns : List ℕ) (xs : List Float) (khs kns : List ℕ) (kxs : List Float) (list : List ℕ) (k : ℕ) : Type 0 where
   pub long : k ≤ length list
   pub few : k ≤ n + kept
-  pub is : (S : Situation tk sm fs rs ls gs n b used keeps margin) (use-final : Bool) → counts ≡ useFinals S.g S.st use-final → (overfull S use-final listed entries kept ≡ false) × ListIs S counts use-final listed hs ns xs khs kns kxs list k
+  pub is : (S : Situation tk sm fs rs ls gs n b used keeps margin) (use_final : Bool) → counts ≡ use_finals S.g S.st use_final → (overfull S use_final listed entries kept ≡ false) × ListIs S counts use_final listed hs ns xs khs kns kxs list k
 
-counts-are : {tk : List ℕ} {sm fs : List Float} {rs : List ℕ} {ls : List ℤ} {gs : List Float} {n b used : ℕ} {keeps : Bool} {margin : Float} {counts use-final : Bool} → FinalsCount tk fs b n use-final counts
-    → (S : Situation tk sm fs rs ls gs n b used keeps margin) → counts ≡ useFinals S.g S.st use-final
-counts-are {sm = sm} {used = used} counted S = counted.is sm S.g S.finals S.h used S.st S.shown
+counts_are : {tk : List ℕ} {sm fs : List Float} {rs : List ℕ} {ls : List ℤ} {gs : List Float} {n b used : ℕ} {keeps : Bool} {margin : Float} {counts use_final : Bool} → FinalsCount tk fs b n use_final counts
+    → (S : Situation tk sm fs rs ls gs n b used keeps margin) → counts ≡ use_finals S.g S.st use_final
+counts_are {sm = sm} {used = used} counted S = counted.is sm S.g S.finals S.h used S.st S.shown
 
 module _ {tk : List ℕ} {sm fs : List Float} {rs : List ℕ} {ls : List ℤ} {gs : List Float} {n b used : ℕ} {keeps : Bool} {margin : Float} {counts : Bool} {listed entries kept : ℕ} {hs ns : List ℕ} {xs : List Float} {khs kns : List ℕ} {kxs : List Float} {list : List ℕ} where
   pub items_of : {r : Listing} {k : ℕ} → ListingIs tk sm fs rs ls gs n b used keeps margin counts listed entries kept hs ns xs khs kns kxs list r → r ≡ Items k → ItemsAre tk sm fs rs ls gs n b used keeps margin counts listed entries kept hs ns xs khs kns kxs list k
-  items_of (isFull d) e = let z : ◌≡◌ {A = ℕ} 0 1 = cc in absurd (omega arith)
-  items_of {k = k} (areItems j long few is) e =
+  items_of (is_full d) e = let z : ◌≡◌ {A = ℕ} 0 1 = cc in absurd (omega arith)
+  items_of {k = k} (are_items j long few is) e =
       let q : j ≡ k = cc in
       subst (ItemsAre tk sm fs rs ls gs n b used keeps margin counts listed entries kept hs ns xs khs kns kxs list) q (record { long = long; few = few; is = is })
 
-  full-of : {r : Listing} → ListingIs tk sm fs rs ls gs n b used keeps margin counts listed entries kept hs ns xs khs kns kxs list r → r ≡ Full
-      → (S : Situation tk sm fs rs ls gs n b used keeps margin) (use-final : Bool) → counts ≡ useFinals S.g S.st use-final → overfull S use-final listed entries kept ≡ true
-  full-of (isFull d) e = d
-  full-of (areItems j long few is) e = let z : ◌≡◌ {A = ℕ} 0 1 = cc in absurd (omega arith)
+  full_of : {r : Listing} → ListingIs tk sm fs rs ls gs n b used keeps margin counts listed entries kept hs ns xs khs kns kxs list r → r ≡ Full
+      → (S : Situation tk sm fs rs ls gs n b used keeps margin) (use_final : Bool) → counts ≡ use_finals S.g S.st use_final → overfull S use_final listed entries kept ≡ true
+  full_of (is_full d) e = d
+  full_of (are_items j long few is) e = let z : ◌≡◌ {A = ℕ} 0 1 = cc in absurd (omega arith)
 
-  module _ {use-final : Bool} (counted : FinalsCount tk fs b n use-final counts) where
+  module _ {use_final : Bool} (counted : FinalsCount tk fs b n use_final counts) where
     -- a full store
-    pub read-full : {r : Listing} {max decoded : ℕ} {o : Outputs} → listed ≤ 64 → max ≤ 64 → ListingIs tk sm fs rs ls gs n b used keeps margin counts listed entries kept hs ns xs khs kns kxs list r → r ≡ Full
-        → ReadingsRight tk sm fs rs ls gs n b used keeps margin decoded use-final listed max entries kept o o (Refused 15)
-    unfolding readReadings
-    read-full {max = max} {decoded} {o} m t is e =
+    pub read_full : {r : Listing} {max decoded : ℕ} {o : Outputs} → listed ≤ 64 → max ≤ 64 → ListingIs tk sm fs rs ls gs n b used keeps margin counts listed entries kept hs ns xs khs kns kxs list r → r ≡ Full
+        → ReadingsRight tk sm fs rs ls gs n b used keeps margin decoded use_final listed max entries kept o o (Refused 15)
+    unfolding read_readings
+    read_full {max = max} {decoded} {o} m t is e =
         record {
           answer = λ S d l h.
-              let r = readings S.g S.st use-final listed in
-              let full = ap₂ (λ (a c : Option ℕ). over r.belows a || over r.kepts c) h.below h.kept-are ∙ full-of is e S use-final (counts-are counted S) in
-              let small = not-many listed max m t in
-              readingsRefused 15
+              let r = readings S.g S.st use_final listed in
+              let full = ap₂ (λ (a c : Option ℕ). over r.belows a || over r.kepts c) h.below h.kept_are ∙ full_of is e S use_final (counts_are counted S) in
+              let small = not_many listed max m t in
+              readings_refused 15
               (λ i. unless
               (first_of
-              (refuse 6 (small i) ∷ refuse 15 (full i) ∷ refuse 11 (short (placesIn o) (map (λ (g : Group). g.words) r.groups) (traceGroups S.st max r.groups) (length r.groups)) ∷ []))
-              (readingsAnswer (map reading_of r.groups) (traceGroups S.st max r.groups)))
+              (refuse 6 (small i) ∷ refuse 15 (full i) ∷ refuse 11 (short (places_in o) (map (λ (g : Group). g.words) r.groups) (trace_groups S.st max r.groups) (length r.groups)) ∷ []))
+              (readings_answer (map reading_of r.groups) (trace_groups S.st max r.groups)))
               refl;
         }
 
     module _ {k : ℕ} (items : ItemsAre tk sm fs rs ls gs n b used keeps margin counts listed entries kept hs ns xs khs kns kxs list k) where
-      list_of : (S : Situation tk sm fs rs ls gs n b used keeps margin) → ListIs S counts use-final listed hs ns xs khs kns kxs list k
-      list_of S = (items.is S use-final (counts-are counted S)).1
+      list_of : (S : Situation tk sm fs rs ls gs n b used keeps margin) → ListIs S counts use_final listed hs ns xs khs kns kxs list k
+      list_of S = (items.is S use_final (counts_are counted S)).1
 
       -- every item can be read
-      pub list-asks : {z : Scratch} → ListingAsks tk sm fs rs ls gs n b used keeps margin kept z → kept ≤ 0x7fff_fff0 → {route : List ℕ} → length route ≡ z.route → (decoded : ℕ) → ListAsks (view tk sm fs rs ls ns khs kns kxs b used decoded counts) list k route
-      list-asks asks m e decoded =
+      pub list_asks : {z : Scratch} → ListingAsks tk sm fs rs ls gs n b used keeps margin kept z → kept ≤ 0x7fff_fff0 → {route : List ℕ} → length route ≡ z.route → (decoded : ℕ) → ListAsks (view tk sm fs rs ls ns khs kns kxs b used decoded counts) list k route
+      list_asks asks m e decoded =
           let st = asks.stores in
           let S = st.situation in
           let L = list_of S in
@@ -105,26 +105,26 @@ module _ {tk : List ℕ} {sm fs : List Float} {rs : List ℕ} {ls : List ℤ} {g
                 let h = L.each i l in
                 record { side = st.side; own = λ q. let d = (h.own q).0 in record { tokens = omega arith; sums = omega arith; finals = omega arith }; kept = h.room };
             paths = λ i l.
-                let x = item-is S L items.long i l in
+                let x = item_is S L items.long i l in
                 let d = x.held.0 in
                 let short = x.short in
                 record {
                   side = st.side;
                   walkable = st.walkable;
                   inside = omega arith;
-                  low = (link-is S counts L.decoded x).low;
+                  low = (link_is S counts L.decoded x).low;
                   routed = record { h = S.h; used = used; hs = hs; xs = xs; bs = L.bs; decoded = L.decoded; low = x.low; nexts = L.nexts; room = omega arith };
                 };
-            sums = λ i l. let d = (item-is S L items.long i l).held.0 in omega arith;
-            even = λ i l. even_is S counts L.decoded (item-is S L items.long i l) decoded;
+            sums = λ i l. let d = (item_is S L items.long i l).held.0 in omega arith;
+            even = λ i l. even_is S counts L.decoded (item_is S L items.long i l) decoded;
           }
 
       -- the list, or slices that are too short for it
       pub read_right : {z : Scratch} → ListingAsks tk sm fs rs ls gs n b used keeps margin kept z → {max decoded : ℕ} → listed ≤ 64 → max ≤ 64 → {o o' : Outputs} {r : ReadingList} → ListWritten (view tk sm fs rs ls ns khs kns kxs b used decoded counts) max list k o o' r
-          → ReadingsRight tk sm fs rs ls gs n b used keeps margin decoded use-final listed max entries kept o o' r
-      read_right asks {max} {decoded} m t {o} {o'} (noRoom e q) =
-          record { answer = λ S d l h. readingsRefused 11 (answer-is S (list_of S) items.long decoded max d l h o (not-many listed max m t) (items.is S use-final (counts-are counted S)).0 e) q }
-      read_right asks {max} {decoded} m t {o} {o'} (areWritten e f) =
+          → ReadingsRight tk sm fs rs ls gs n b used keeps margin decoded use_final listed max entries kept o o' r
+      read_right asks {max} {decoded} m t {o} {o'} (no_room e q) =
+          record { answer = λ S d l h. readings_refused 11 (answer_is S (list_of S) items.long decoded max d l h o (not_many listed max m t) (items.is S use_final (counts_are counted S)).0 e) q }
+      read_right asks {max} {decoded} m t {o} {o'} (are_written e f) =
           record {
-            answer = λ S d l h. readings-are-listed S (list_of S) items.long decoded max f (answer-is S (list_of S) items.long decoded max d l h o (not-many listed max m t) (items.is S use-final (counts-are counted S)).0 e);
+            answer = λ S d l h. readings_are_listed S (list_of S) items.long decoded max f (answer_is S (list_of S) items.long decoded max d l h o (not_many listed max m t) (items.is S use_final (counts_are counted S)).0 e);
           }

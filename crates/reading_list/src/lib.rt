@@ -3,16 +3,16 @@ ghost use Rattle.std.specs.Prelude.{◌⊎◌, ◌≡◌, ◌+◌, ◌*◌, ◌�
 ghost use Rattle.std.proofs.lemmas.List.Edits.{sets};
 ghost use Rattle.summaries.specs.Summed.{Skips};
 ghost use Rattle.routes.specs.Counts.{Counts};
-ghost use Rattle.traceback.specs.Trail.{noTrail};
-ghost use Rattle.traceback.specs.Chain.{Walkable, trailFrom};
-ghost use Rattle.places.specs.Places.{entryPlaces, keptPlaces};
+ghost use Rattle.traceback.specs.Trail.{no_trail};
+ghost use Rattle.traceback.specs.Chain.{Walkable, trail_from};
+ghost use Rattle.places.specs.Places.{entry_places, kept_places};
 ghost use Rattle.listing.specs.Listed.{scratch, ListingAsks};
 ghost use Rattle.stores.specs.Lent.{Used};
 ghost use Rattle.reading_list.specs.Outputs.{outputs};
 ghost use Rattle.reading_list.specs.Scratch.{scratch as worked, ScratchLeft};
 ghost use Rattle.reading_list.specs.Right.{ReadingsRight};
-ghost use Rattle.reading_list.specs.Items.{ownReading, keptReading, itemReading, ItemAsks, trailOf, PathAsks};
-ghost use Rattle.reading_list.specs.Lines.{view, line_of, linesIn, ListAsks, SizeFor, GrowAsks, grownBy, TotalsAre, tooShort, BehindAsks, WrittenBehind, fiveOf, fourOf, LineAsks, LinePut, WriteAsks, Filled, ListWritten};
+ghost use Rattle.reading_list.specs.Items.{own_reading, kept_reading, item_reading, ItemAsks, trail_of, PathAsks};
+ghost use Rattle.reading_list.specs.Lines.{view, line_of, lines_in, ListAsks, SizeFor, GrowAsks, grown_by, TotalsAre, too_short, BehindAsks, WrittenBehind, five_of, four_of, LineAsks, LinePut, WriteAsks, Filled, ListWritten};
 
 use kept_readings::KeptReading;
 use listing::Listing;
@@ -29,7 +29,7 @@ struct Reading {
 }
 
 fn own_reading(best: Best) -> Reading
-    ensures { result ≡ ownReading best }
+    ensures { result ≡ own_reading best }
 {
     match best {
         Best::Nobody => Reading {
@@ -48,7 +48,7 @@ fn own_reading(best: Best) -> Reading
 }
 
 fn kept_reading(k: KeptReading) -> Reading
-    ensures { result ≡ keptReading k }
+    ensures { result ≡ kept_reading k }
 {
     Reading {
         state: k.state,
@@ -71,7 +71,7 @@ fn reading_at(
     item: u32,
 ) -> Reading
     requires { ItemAsks tokens.now sums.now finals.now side kept_hashes.now kept_links.now kept_sums.now item }
-    ensures { result ≡ itemReading tokens.now sums.now finals.now side counts kept_hashes.now kept_links.now kept_sums.now item }
+    ensures { result ≡ item_reading tokens.now sums.now finals.now side counts kept_hashes.now kept_links.now kept_sums.now item }
 {
     if item < 0x8000_0000 {
         return own_reading(traceback::candidate_at(tokens, sums, finals, side, item, counts));
@@ -97,7 +97,7 @@ fn measure_path(
     traced: bool,
 ) -> Size
     requires { (Walkable records.now labels.now used) × (link ≤ used) × (Skips records.now labels.now used used history_skips.now) × (Counts records.now labels.now used used history_counts.now) }
-    ensures { SizeFor traced (trailFrom records.now labels.now route.now n link noTrail) used result }
+    ensures { SizeFor traced (trail_from records.now labels.now route.now n link no_trail) used result }
 {
     if traced {
         return traceback::measure(records, labels, route, used, n, link);
@@ -130,7 +130,7 @@ fn measure_reading(
     route: &mut [u32],
 ) -> Size
     requires { (PathAsks tokens.now records.now labels.now nexts.now side used g route.old) × (Skips records.now labels.now used used history_skips.now) × (Counts records.now labels.now used used history_counts.now) }
-    ensures { SizeFor traced (trailOf tokens.now records.now labels.now nexts.now side n g) used result }
+    ensures { SizeFor traced (trail_of tokens.now records.now labels.now nexts.now side n g) used result }
 {
     let link = tokens::link_at(tokens, side, g.state);
     let k = routes::route_of(nexts, g.entry, route);
@@ -157,7 +157,7 @@ struct Totals {
 
 fn grown(t: Totals, z: Size, traced: bool) -> Totals
     requires { GrowAsks t z }
-    ensures { result ≡ grownBy t z traced }
+    ensures { result ≡ grown_by t z traced }
 {
     let words = t.words + z.words as usize;
     if traced {
@@ -245,7 +245,7 @@ fn too_short(
     numbers: usize,
     costs: usize,
 ) -> bool
-    ensures { result ≡ tooShort total k words frames segments numbers costs }
+    ensures { result ≡ too_short total k words frames segments numbers costs }
 {
     if words < total.words {
         return true;
@@ -279,8 +279,8 @@ fn write_behind(
     frames: &mut [u32],
     segments: &mut [u32],
 )
-    requires { (Walkable records.now labels.now used) × (link ≤ used) × (BehindAsks (trailFrom records.now labels.now route.now n link noTrail) used z traced w s words.old frames.old segments.old) × (Skips records.now labels.now used used history_skips.now) }
-    ensures { WrittenBehind traced (trailFrom records.now labels.now route.now n link noTrail) w s words.old frames.old segments.old words.new frames.new segments.new }
+    requires { (Walkable records.now labels.now used) × (link ≤ used) × (BehindAsks (trail_from records.now labels.now route.now n link no_trail) used z traced w s words.old frames.old segments.old) × (Skips records.now labels.now used used history_skips.now) }
+    ensures { WrittenBehind traced (trail_from records.now labels.now route.now n link no_trail) w s words.old frames.old segments.old words.new frames.new segments.new }
 {
     if traced {
         let from = s * 3;
@@ -313,7 +313,7 @@ fn write_behind(
 // The numbers of the i-th reading: where its words and its segments end, how many kept histories it takes, and its token's phone and seq.
 fn put_numbers(numbers: &mut [u64], i: usize, to: Totals, kept: usize, t: Token)
     requires { i * 5 + 5 ≤ length numbers.old }
-    ensures { numbers.new ≡ sets numbers.old (i * 5) (fiveOf to.words to.segments kept t) }
+    ensures { numbers.new ≡ sets numbers.old (i * 5) (five_of to.words to.segments kept t) }
 {
     numbers[i * 5] = to.words as u64;
     numbers[i * 5 + 1] = to.segments as u64;
@@ -325,7 +325,7 @@ fn put_numbers(numbers: &mut [u64], i: usize, to: Totals, kept: usize, t: Token)
 // The costs of the i-th reading: its rank and its cost, and its token's cost and graph sum.
 fn put_costs(costs: &mut [f32], i: usize, g: Reading, t: Token)
     requires { i * 4 + 4 ≤ length costs.old }
-    ensures { costs.new ≡ sets costs.old (i * 4) (fourOf g.rank g.cost t) }
+    ensures { costs.new ≡ sets costs.old (i * 4) (four_of g.rank g.cost t) }
 {
     costs[i * 4] = g.rank;
     costs[i * 4 + 1] = g.cost;
@@ -422,7 +422,7 @@ fn write_all(
     costs: &mut [f32],
 )
     requires { (WriteAsks (view tokens.now sums.now finals.now records.now labels.now nexts.now kept_hashes.now kept_links.now kept_sums.now side used n counts) max list.now k route.old (outputs words.old frames.old segments.old numbers.old costs.old)) × (Skips records.now labels.now used used history_skips.now) × (Counts records.now labels.now used used history_counts.now) }
-    ensures { Filled (linesIn (view tokens.now sums.now finals.now records.now labels.now nexts.now kept_hashes.now kept_links.now kept_sums.now side used n counts) max list.now k) (outputs words.old frames.old segments.old numbers.old costs.old) (outputs words.new frames.new segments.new numbers.new costs.new) }
+    ensures { Filled (lines_in (view tokens.now sums.now finals.now records.now labels.now nexts.now kept_hashes.now kept_links.now kept_sums.now side used n counts) max list.now k) (outputs words.old frames.old segments.old numbers.old costs.old) (outputs words.new frames.new segments.new numbers.new costs.new) }
 {
     let mut at = Totals {
         words: 0,
@@ -603,8 +603,8 @@ pub fn readings(
     numbers: &mut [u64],
     costs: &mut [f32],
 ) -> ReadingList
-    requires { (ListingAsks tokens.now sums.now finals.now records.now labels.now gaps.now states side used keeps margin (keptPlaces (length kept_hashes.old) (length kept_links.old) (length kept_sums.old)) (scratch (length keys.old) (length places.old) (length own.old) (length heads.old) (length list.old) (length lists.old) (length route.old) (length order.old))) × (used * 2 ≤ length history_keys.old) × (used * 2 ≤ length history_skips.old) }
-    ensures { (ReadingsRight tokens.now sums.now finals.now records.now labels.now gaps.now states side used keeps margin n use_final listed max (entryPlaces (length entry_hashes.old) (length entry_nexts.old) (length entry_sums.old)) (keptPlaces (length kept_hashes.old) (length kept_links.old) (length kept_sums.old)) (outputs words.old frames.old segments.old numbers.old costs.old) (outputs words.new frames.new segments.new numbers.new costs.new) result) × (Used ScratchLeft ((64 < listed) ⊎ (64 < max)) (worked keys.old places.old own.old heads.old list.old lists.old route.old history_keys.old history_skips.old entry_hashes.old entry_nexts.old entry_sums.old kept_hashes.old kept_links.old kept_sums.old order.old) (worked keys.new places.new own.new heads.new list.new lists.new route.new history_keys.new history_skips.new entry_hashes.new entry_nexts.new entry_sums.new kept_hashes.new kept_links.new kept_sums.new order.new)) }
+    requires { (ListingAsks tokens.now sums.now finals.now records.now labels.now gaps.now states side used keeps margin (kept_places (length kept_hashes.old) (length kept_links.old) (length kept_sums.old)) (scratch (length keys.old) (length places.old) (length own.old) (length heads.old) (length list.old) (length lists.old) (length route.old) (length order.old))) × (used * 2 ≤ length history_keys.old) × (used * 2 ≤ length history_skips.old) }
+    ensures { (ReadingsRight tokens.now sums.now finals.now records.now labels.now gaps.now states side used keeps margin n use_final listed max (entry_places (length entry_hashes.old) (length entry_nexts.old) (length entry_sums.old)) (kept_places (length kept_hashes.old) (length kept_links.old) (length kept_sums.old)) (outputs words.old frames.old segments.old numbers.old costs.old) (outputs words.new frames.new segments.new numbers.new costs.new) result) × (Used ScratchLeft ((64 < listed) ⊎ (64 < max)) (worked keys.old places.old own.old heads.old list.old lists.old route.old history_keys.old history_skips.old entry_hashes.old entry_nexts.old entry_sums.old kept_hashes.old kept_links.old kept_sums.old order.old) (worked keys.new places.new own.new heads.new list.new lists.new route.new history_keys.new history_skips.new entry_hashes.new entry_nexts.new entry_sums.new kept_hashes.new kept_links.new kept_sums.new order.new)) }
 {
     if refusals::MAX_LISTED < listed {
         return ReadingList::Refused(refusals::BAD_SETTING);

@@ -1,7 +1,7 @@
 // The search of a word in a reading list: the words of all readings, and where each reading ends.
 ghost use Rattle.std.specs.Prelude.{◌≡◌, false, length};
-ghost use Rattle.model.specs.Search.{partsWrong, contains, firstReading};
-ghost use Rattle.reading_search.specs.Found.{foundOf, listing};
+ghost use Rattle.model.specs.Search.{parts_wrong, contains, first_reading};
+ghost use Rattle.reading_search.specs.Found.{found_of, listing};
 
 // The answer: the index, counted from 0, of the first reading that contains the word; that none does; or the number of a refusal.
 #[derive(Drop)]
@@ -13,7 +13,7 @@ pub enum Found {
 
 // Finds the first listed reading that contains the word; 11 where the ends fall or pass the words.
 pub fn find(word: i32, ends: &[u32], words: &[i32]) -> Found
-    ensures { foundOf result ≡ firstReading word (listing ends.now words.now) }
+    ensures { found_of result ≡ first_reading word (listing ends.now words.now) }
 {
     if parts_wrong(ends, words.len()) {
         return Found::Refused(refusals::TOO_SHORT);
@@ -29,7 +29,7 @@ fn wide(x: u32) -> usize
 
 // Whether the ends fall, or pass the limit.
 fn parts_wrong(ends: &[u32], limit: usize) -> bool
-    ensures { result ≡ partsWrong 0 limit ends.now }
+    ensures { result ≡ parts_wrong 0 limit ends.now }
 {
     let mut from = 0;
     let mut i = 0;
@@ -49,8 +49,8 @@ fn parts_wrong(ends: &[u32], limit: usize) -> bool
 
 // Goes through the readings in order, each a part of the words.
 fn search(word: i32, ends: &[u32], words: &[i32]) -> Found
-    requires { partsWrong 0 (length words.now) ends.now ≡ false }
-    ensures { foundOf result ≡ firstReading word (listing ends.now words.now) }
+    requires { parts_wrong 0 (length words.now) ends.now ≡ false }
+    ensures { found_of result ≡ first_reading word (listing ends.now words.now) }
 {
     let mut from = 0;
     let mut reading = 0;

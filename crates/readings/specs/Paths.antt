@@ -5,27 +5,27 @@ use Rattle.lists.specs.Lists.{sum}
 use Rattle.model.specs.Basics.{◌⊕◌}
 use Rattle.model.specs.Reads.{Traced as Told}
 use Rattle.model.specs.Calls.{Sizes, words_of}
-use Rattle.tokens.specs.Layout.{costAt, place_in}
+use Rattle.tokens.specs.Layout.{cost_at, place_in}
 use Rattle.traceback.specs.declared.Size.{Size}
-use Rattle.traceback.specs.Ranks.{weightIn}
-use Rattle.traceback.specs.Trail.{Trail, noTrail}
-use Rattle.traceback.specs.Chain.{Walkable, trailFrom, SizeIs}
+use Rattle.traceback.specs.Ranks.{weight_in}
+use Rattle.traceback.specs.Trail.{Trail, no_trail}
+use Rattle.traceback.specs.Chain.{Walkable, trail_from, SizeIs}
 use Rattle.traceback.specs.Write.{flat}
-use Rattle.traceback.specs.Answers.{toldBy}
-use Rattle.traceback.specs.Right.{parts, pathIn, segmentsIn}
+use Rattle.traceback.specs.Answers.{told_by}
+use Rattle.traceback.specs.Right.{parts, path_in, segments_in}
 use Rattle.groups.specs.Firsts.{link_at}
 
 -- ---- one state's path
 
-abbrev pub costIn : (sm fs : List Float) → (side : ℕ) → (counts : Bool) → (s : ℕ) → Float
-costIn sm fs b counts s = costAt sm (place_in b s) ⊕ weightIn fs s counts
+abbrev pub cost_in : (sm fs : List Float) → (side : ℕ) → (counts : Bool) → (s : ℕ) → Float
+cost_in sm fs b counts s = cost_at sm (place_in b s) ⊕ weight_in fs s counts
 
-abbrev pub trailAt : (tk rs : List ℕ) → List ℤ → (side n s : ℕ) → Trail
-trailAt tk rs ls b n s = trailFrom rs ls [] n (link_at tk b s) noTrail
+abbrev pub trail_at : (tk rs : List ℕ) → List ℤ → (side n s : ℕ) → Trail
+trail_at tk rs ls b n s = trail_from rs ls [] n (link_at tk b s) no_trail
 
 -- the paths of states, with their costs
-abbrev pub toldsOf : (tk rs : List ℕ) → List ℤ → (side n : ℕ) → (cost : ℕ → Float) → List ℕ → List Told
-toldsOf tk rs ls b n cost ss = map (λ (s : ℕ). toldBy (trailAt tk rs ls b n s) (cost s)) ss
+abbrev pub tolds_of : (tk rs : List ℕ) → List ℤ → (side n : ℕ) → (cost : ℕ → Float) → List ℕ → List Told
+tolds_of tk rs ls b n cost ss = map (λ (s : ℕ). told_by (trail_at tk rs ls b n s) (cost s)) ss
 
 pub record PathsAsk (tk rs : List ℕ) (ls : List ℤ) (b used s : ℕ) : Type 0 where
   pub side : b ≤ 1
@@ -38,20 +38,20 @@ pub record PathsAsk (tk rs : List ℕ) (ls : List ℤ) (b used s : ℕ) : Type 0
 abbrev pub words_in : List Told → ℕ
 words_in ts = sum (map length (words_of ts))
 
-abbrev pub framesIn : List Told → ℕ
-framesIn ts = sum (map (λ (t : Told). length t.wordFrames) ts)
+abbrev pub frames_in : List Told → ℕ
+frames_in ts = sum (map (λ (t : Told). length t.word_frames) ts)
 
-abbrev pub phonesIn : List Told → ℕ
-phonesIn ts = sum (map (λ (t : Told). length t.phones) ts)
+abbrev pub phones_in : List Told → ℕ
+phones_in ts = sum (map (λ (t : Told). length t.phones) ts)
 
-abbrev pub lesserOf : ℕ → ℕ → ℕ
-lesserOf a b = cond (ltb b a) b a
+abbrev pub lesser_of : ℕ → ℕ → ℕ
+lesser_of a b = cond (ltb b a) b a
 
 abbrev pub sizes : (words frames segments entries : ℕ) → Sizes
 sizes w f s e = record { words = w; frames = f; segments = s; entries = e }
 
-abbrev pub tooShort : Size → (k : ℕ) → Sizes → Bool
-tooShort z k p = ltb p.words z.words || (ltb p.frames z.words || (ltb p.segments z.segments || ltb p.entries k))
+abbrev pub too_short : Size → (k : ℕ) → Sizes → Bool
+too_short z k p = ltb p.words z.words || (ltb p.frames z.words || (ltb p.segments z.segments || ltb p.entries k))
 
 pub record FillAsks (tk rs : List ℕ) (ls : List ℤ) (b used : ℕ) (order : List ℕ) (k : ℕ) : Type 0 where
   pub few : k ≤ 64
@@ -60,10 +60,10 @@ pub record FillAsks (tk rs : List ℕ) (ls : List ℤ) (b used : ℕ) (order : L
 
 -- the paths of the first k states together, whatever they cost
 pub record TotalIs (tk rs : List ℕ) (ls : List ℤ) (b used n : ℕ) (order : List ℕ) (k : ℕ) (r : Size) : Type 0 where
-  pub words : (cost : ℕ → Float) → r.words ≡ words_in (toldsOf tk rs ls b n cost (take k order))
-  pub segments : (cost : ℕ → Float) → r.segments ≡ phonesIn (toldsOf tk rs ls b n cost (take k order))
+  pub words : (cost : ℕ → Float) → r.words ≡ words_in (tolds_of tk rs ls b n cost (take k order))
+  pub segments : (cost : ℕ → Float) → r.segments ≡ phones_in (tolds_of tk rs ls b n cost (take k order))
   pub few : (r.words ≤ k * 1_048_576) × (r.segments ≤ k * 2_097_152)
-  pub sized : (i : ℕ) → i < k → (z : Size) × SizeIs (trailAt tk rs ls b n (get_or order i 0)) used z
+  pub sized : (i : ℕ) → i < k → (z : Size) × SizeIs (trail_at tk rs ls b n (get_or order i 0)) used z
 
 -- ---- the slices
 
@@ -78,29 +78,29 @@ pub record Outputs : Type 0 where
 abbrev pub outputs : List ℤ → (frames segments ends : List ℕ) → List Float → Outputs
 outputs ws fs ss es cs = record { words = ws; frames = fs; segments = ss; ends = es; costs = cs }
 
-abbrev pub placesIn : Outputs → Sizes
-placesIn o = record { words = length o.words; frames = length o.frames; segments = length o.segments / 3; entries = lesserOf (length o.ends / 2) (length o.costs) }
+abbrev pub places_in : Outputs → Sizes
+places_in o = record { words = length o.words; frames = length o.frames; segments = length o.segments / 3; entries = lesser_of (length o.ends / 2) (length o.costs) }
 
-abbrev pub sizeBy : (words segments : ℕ) → Size
-sizeBy w s = record { words = w; segments = s }
+abbrev pub size_by : (words segments : ℕ) → Size
+size_by w s = record { words = w; segments = s }
 
 -- k paths, the first of which begins behind w words and s segments
-abbrev pub pathsFrom : (k w s : ℕ) → List ℤ → (frames segments ends : List ℕ) → List Float → List Told
-pathsFrom zero w s ws fs ss es cs = []
-pathsFrom (suc k) w s ws fs ss [] cs = []
-pathsFrom (suc k) w s ws fs ss (e ∷ []) cs = []
-pathsFrom (suc k) w s ws fs ss (e ∷ f ∷ es) [] = []
-pathsFrom (suc k) w s ws fs ss (e ∷ f ∷ es) (c ∷ cs) =
-    pathIn (parts ws fs ss) (sizeBy (e - w) (f - s)) c ∷ pathsFrom k e f (drop (e - w) ws) (drop (e - w) fs) (drop ((f - s) * 3) ss) es cs
+abbrev pub paths_from : (k w s : ℕ) → List ℤ → (frames segments ends : List ℕ) → List Float → List Told
+paths_from zero w s ws fs ss es cs = []
+paths_from (suc k) w s ws fs ss [] cs = []
+paths_from (suc k) w s ws fs ss (e ∷ []) cs = []
+paths_from (suc k) w s ws fs ss (e ∷ f ∷ es) [] = []
+paths_from (suc k) w s ws fs ss (e ∷ f ∷ es) (c ∷ cs) =
+    path_in (parts ws fs ss) (size_by (e - w) (f - s)) c ∷ paths_from k e f (drop (e - w) ws) (drop (e - w) fs) (drop ((f - s) * 3) ss) es cs
 
-abbrev pub pathsIn : ℕ → Outputs → List Told
-pathsIn k o = pathsFrom k 0 0 o.words o.frames o.segments o.ends o.costs
+abbrev pub paths_in : ℕ → Outputs → List Told
+paths_in k o = paths_from k 0 0 o.words o.frames o.segments o.ends o.costs
 
 -- these paths have their places
 pub record RoomFor (ts : List Told) (o : Outputs) : Type 0 where
   pub words : words_in ts ≤ length o.words
-  pub frames : framesIn ts ≤ length o.frames
-  pub segments : phonesIn ts * 3 ≤ length o.segments
+  pub frames : frames_in ts ≤ length o.frames
+  pub segments : phones_in ts * 3 ≤ length o.segments
   pub ends : 2 * length ts ≤ length o.ends
   pub costs : length ts ≤ length o.costs
 
@@ -110,30 +110,30 @@ pub record RoomFor (ts : List Told) (o : Outputs) : Type 0 where
 abbrev pub front : {A : Type 0} → List A → List A → List A
 front l vs = vs ++ drop (length vs) l
 
-abbrev pub allWords : List Told → List ℤ
-allWords [] = []
-allWords (t ∷ ts) = t.words ++ allWords ts
+abbrev pub all_words : List Told → List ℤ
+all_words [] = []
+all_words (t ∷ ts) = t.words ++ all_words ts
 
-abbrev pub allFrames : List Told → List ℕ
-allFrames [] = []
-allFrames (t ∷ ts) = t.wordFrames ++ allFrames ts
+abbrev pub all_frames : List Told → List ℕ
+all_frames [] = []
+all_frames (t ∷ ts) = t.word_frames ++ all_frames ts
 
-abbrev pub allSegments : List Told → List ℕ
-allSegments [] = []
-allSegments (t ∷ ts) = flat t.phones ++ allSegments ts
+abbrev pub all_segments : List Told → List ℕ
+all_segments [] = []
+all_segments (t ∷ ts) = flat t.phones ++ all_segments ts
 
 -- where each ends, the first beginning behind w words and s segments
-abbrev pub endsFrom : (w s : ℕ) → List Told → List ℕ
-endsFrom w s [] = []
-endsFrom w s (t ∷ ts) = (w + length t.words) ∷ (s + length t.phones) ∷ endsFrom (w + length t.words) (s + length t.phones) ts
+abbrev pub ends_from : (w s : ℕ) → List Told → List ℕ
+ends_from w s [] = []
+ends_from w s (t ∷ ts) = (w + length t.words) ∷ (s + length t.phones) ∷ ends_from (w + length t.words) (s + length t.phones) ts
 
-abbrev pub costsOf : List Told → List Float
-costsOf ts = map (λ (t : Told). t.cost) ts
+abbrev pub costs_of : List Told → List Float
+costs_of ts = map (λ (t : Told). t.cost) ts
 
 -- As many frames as words, and segments that are read as they were written.
 pub record Plain (t : Told) : Type 0 where
-  pub as_many : length t.wordFrames ≡ length t.words
-  pub back : (rest : List ℕ) → segmentsIn (length t.phones) (flat t.phones ++ rest) ≡ t.phones
+  pub as_many : length t.word_frames ≡ length t.words
+  pub back : (rest : List ℕ) → segments_in (length t.phones) (flat t.phones ++ rest) ≡ t.phones
 
 abbrev pub Plains : List Told → Type 0
 Plains [] = Unit {0}
@@ -152,14 +152,14 @@ pub record PathPut (t : Trail) (at r : Size) (ws ws' : List ℤ) (fs fs' ss ss' 
   pub words : ws' ≡ sets ws at.words t.words
   pub frames : fs' ≡ sets fs at.words t.frames
   pub segments : ss' ≡ sets ss (at.segments * 3) (flat t.segments)
-  pub to-words : r.words ≡ at.words + length t.words
-  pub to-segments : r.segments ≡ at.segments + length t.segments
+  pub to_words : r.words ≡ at.words + length t.words
+  pub to_segments : r.segments ≡ at.segments + length t.segments
 
 pub record EntryAsks (tk : List ℕ) (sm fs : List Float) (rs : List ℕ) (ls : List ℤ) (b used n s i : ℕ) (at : Size) (o : Outputs) : Type 0 where
   pub path : PathsAsk tk rs ls b used s
   pub sums : s * 4 + 4 ≤ length sm
   pub finals : s < length fs
-  pub put : PutAsks (trailAt tk rs ls b n s) at o.words o.frames o.segments
+  pub put : PutAsks (trail_at tk rs ls b n s) at o.words o.frames o.segments
   pub few : i < 64
   pub ends : 2 * i + 2 ≤ length o.ends
   pub costs : i < length o.costs
@@ -173,6 +173,6 @@ pub record WriteAsks (tk : List ℕ) (sm fs : List Float) (rs : List ℕ) (ls : 
   pub fill : FillAsks tk rs ls b used order k
   pub sums : (i : ℕ) → i < k → get_or order i 0 * 4 + 4 ≤ length sm
   pub finals : (i : ℕ) → i < k → get_or order i 0 < length fs
-  pub even : (i : ℕ) → i < k → length (trailAt tk rs ls b n (get_or order i 0)).frames ≡ length (trailAt tk rs ls b n (get_or order i 0)).words
-  pub few : (words_in (toldsOf tk rs ls b n (costIn sm fs b counts) (take k order)) ≤ 67_108_864) × (phonesIn (toldsOf tk rs ls b n (costIn sm fs b counts) (take k order)) ≤ 134_217_728)
-  pub room : RoomFor (toldsOf tk rs ls b n (costIn sm fs b counts) (take k order)) o
+  pub even : (i : ℕ) → i < k → length (trail_at tk rs ls b n (get_or order i 0)).frames ≡ length (trail_at tk rs ls b n (get_or order i 0)).words
+  pub few : (words_in (tolds_of tk rs ls b n (cost_in sm fs b counts) (take k order)) ≤ 67_108_864) × (phones_in (tolds_of tk rs ls b n (cost_in sm fs b counts) (take k order)) ≤ 134_217_728)
+  pub room : RoomFor (tolds_of tk rs ls b n (cost_in sm fs b counts) (take k order)) o

@@ -1,10 +1,10 @@
 // Alternatives: the best path of each word list, written one after another.
 ghost use Rattle.std.specs.Prelude.{◌≡◌, ◌+◌, ◌*◌, ◌≤◌, ◌<◌, length, take};
-ghost use Rattle.traceback.specs.Trail.{noTrail};
-ghost use Rattle.traceback.specs.Chain.{Walkable, trailFrom, SizeIs};
+ghost use Rattle.traceback.specs.Trail.{no_trail};
+ghost use Rattle.traceback.specs.Chain.{Walkable, trail_from, SizeIs};
 ghost use Rattle.summaries.specs.Summed.{Summed};
 ghost use Rattle.stores.specs.Lent.{Used};
-ghost use Rattle.readings.specs.Paths.{costIn, trailAt, toldsOf, lesserOf, sizes, tooShort, PathsAsk, FillAsks, TotalIs, PutAsks, PathPut, EntryAsks, EntryPut, WriteAsks, outputs};
+ghost use Rattle.readings.specs.Paths.{cost_in, trail_at, tolds_of, lesser_of, sizes, too_short, PathsAsk, FillAsks, TotalIs, PutAsks, PathPut, EntryAsks, EntryPut, WriteAsks, outputs};
 ghost use Rattle.readings.specs.Right.{StatesListed, Filled, AlternativesAsk, AlternativesRight, scratch, ScratchLeft};
 
 use traceback::Size;
@@ -12,7 +12,7 @@ use traceback::Size;
 // The cost of a state's token with its final weight, or with nothing where finals do not count.
 fn end_cost(sums: &[f32], finals: &[f32], side: u32, s: u32, counts: bool) -> f32
     requires { (side ≤ 1) × (s * 4 + 4 ≤ length sums.now) × (s < length finals.now) }
-    ensures { result ≡ costIn sums.now finals.now side counts s }
+    ensures { result ≡ cost_in sums.now finals.now side counts s }
 {
     let cost = tokens::cost_at(sums, side, s);
     if counts {
@@ -33,7 +33,7 @@ fn measure_at(
     s: u32,
 ) -> Size
     requires { PathsAsk tokens.now records.now labels.now side used s }
-    ensures { SizeIs (trailAt tokens.now records.now labels.now side n s) used result }
+    ensures { SizeIs (trail_at tokens.now records.now labels.now side n s) used result }
 {
     let link = tokens::link_at(tokens, side, s);
     traceback::measure(records, labels, &records[..0], used, n, link)
@@ -76,8 +76,8 @@ fn write_path(
     frames: &mut [u32],
     segments: &mut [u32],
 ) -> Size
-    requires { (Walkable records.now labels.now used) × (link ≤ used) × (PutAsks (trailFrom records.now labels.now route.now n link noTrail) at words.old frames.old segments.old) }
-    ensures { PathPut (trailFrom records.now labels.now route.now n link noTrail) at result words.old words.new frames.old frames.new segments.old segments.new }
+    requires { (Walkable records.now labels.now used) × (link ≤ used) × (PutAsks (trail_from records.now labels.now route.now n link no_trail) at words.old frames.old segments.old) }
+    ensures { PathPut (trail_from records.now labels.now route.now n link no_trail) at result words.old words.new frames.old frames.new segments.old segments.new }
 {
     let z = traceback::measure(records, labels, route, used, n, link);
     let w = at.words as usize;
@@ -121,7 +121,7 @@ fn write_entry(
     costs: &mut [f32],
 ) -> Size
     requires { EntryAsks tokens.now sums.now finals.now records.now labels.now side used n s i at (outputs words.old frames.old segments.old ends.old costs.old) }
-    ensures { EntryPut (trailAt tokens.now records.now labels.now side n s) (costIn sums.now finals.now side counts s) i at result (outputs words.old frames.old segments.old ends.old costs.old) (outputs words.new frames.new segments.new ends.new costs.new) }
+    ensures { EntryPut (trail_at tokens.now records.now labels.now side n s) (cost_in sums.now finals.now side counts s) i at result (outputs words.old frames.old segments.old ends.old costs.old) (outputs words.new frames.new segments.new ends.new costs.new) }
 {
     let link = tokens::link_at(tokens, side, s);
     let to = write_path(
@@ -162,7 +162,7 @@ fn write_all(
     costs: &mut [f32],
 )
     requires { WriteAsks tokens.now sums.now finals.now records.now labels.now side used n counts order.now k (outputs words.old frames.old segments.old ends.old costs.old) }
-    ensures { Filled (toldsOf tokens.now records.now labels.now side n (costIn sums.now finals.now side counts) (take k order.now)) (outputs words.old frames.old segments.old ends.old costs.old) (outputs words.new frames.new segments.new ends.new costs.new) }
+    ensures { Filled (tolds_of tokens.now records.now labels.now side n (cost_in sums.now finals.now side counts) (take k order.now)) (outputs words.old frames.old segments.old ends.old costs.old) (outputs words.new frames.new segments.new ends.new costs.new) }
 {
     let mut at = Size {
         words: 0,
@@ -177,7 +177,7 @@ fn write_all(
 }
 
 fn smaller(a: usize, b: usize) -> usize
-    ensures { result ≡ lesserOf a b }
+    ensures { result ≡ lesser_of a b }
 {
     if b < a { b } else { a }
 }
@@ -191,7 +191,7 @@ fn too_short(
     segments: usize,
     entries: usize,
 ) -> bool
-    ensures { result ≡ tooShort total k (sizes words frames segments entries) }
+    ensures { result ≡ too_short total k (sizes words frames segments entries) }
 {
     if words < total.words as usize {
         return true;

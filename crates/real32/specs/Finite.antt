@@ -6,15 +6,15 @@ use Rattle.std.specs.Float.Ieee.{lt}
 use Rattle.std.specs.Float.Ieee.Scale.{finite}
 use Rattle.lists.specs.Tests.{never}
 
-pub finite-between : (w : Float) → lt w (inf false) ≡ true → lt (inf true) w ≡ finite w
+pub finite_between : (w : Float) → lt w (inf false) ≡ true → lt (inf true) w ≡ finite w
 unfolding lt
-finite-between nan e = never e
-finite-between (inf true) e = refl
-finite-between (inf false) e = never e
-finite-between (fin s m k) e = refl
+finite_between nan e = never e
+finite_between (inf true) e = refl
+finite_between (inf false) e = never e
+finite_between (fin s m k) e = refl
 
-pub not-below-infinity : (w : Float) → lt w (inf false) ≡ false → finite w ≡ false
+pub not_below_infinity : (w : Float) → lt w (inf false) ≡ false → finite w ≡ false
 unfolding lt
-not-below-infinity nan e = refl
-not-below-infinity (inf s) e = refl
-not-below-infinity (fin s m k) e = never (sym e)
+not_below_infinity nan e = refl
+not_below_infinity (inf s) e = refl
+not_below_infinity (fin s m k) e = never (sym e)

@@ -6,7 +6,7 @@ use mathlib.Core.List.Memᴰ.{tail as there}
 use Rattle.std.specs.Float.Ieee.{lt, le}
 use Rattle.lists.specs.Tests.{case}
 use Rattle.lists.specs.Lists.{◌∈◌}
-use Rattle.real32.specs.Order.{real, le_refl, le_trans, lt→le, not-lt→le, lt-real-l}
+use Rattle.real32.specs.Order.{real, le_refl, le_trans, lt→le, not_lt→le, lt_real_l}
 
 -- f32's `min`; of two that are level the first
 unfoldable pub fmin : Float → Float → Float
@@ -20,34 +20,34 @@ pick : (P : Float → Type 0) (b : Bool) (x y : Float) → (T b → P y) → (T 
 pick P true x y h k = h tt
 pick P false x y h k = k tt
 
-pub fmin-real : (x y : Float) → T (real x) → T (real (fmin x y))
+pub fmin_real : (x y : Float) → T (real x) → T (real (fmin x y))
 unfolding fmin
-fmin-real x y p = pick (λ (z : Float). T (real z)) (lt y x) x y (lt-real-l y x) (λ (n : T (not (lt y x))). p)
+fmin_real x y p = pick (λ (z : Float). T (real z)) (lt y x) x y (lt_real_l y x) (λ (n : T (not (lt y x))). p)
 
-pub fmin-l : (x y : Float) → T (real x) → T (le (fmin x y) x)
+pub fmin_l : (x y : Float) → T (real x) → T (le (fmin x y) x)
 unfolding fmin
-fmin-l x y p = pick (λ (z : Float). T (le z x)) (lt y x) x y (lt→le y x) (λ (n : T (not (lt y x))). le_refl x p)
+fmin_l x y p = pick (λ (z : Float). T (le z x)) (lt y x) x y (lt→le y x) (λ (n : T (not (lt y x))). le_refl x p)
 
-pub fmin-r : (x y : Float) → T (real x) → T (real y) → T (le (fmin x y) y)
+pub fmin_r : (x y : Float) → T (real x) → T (real y) → T (le (fmin x y) y)
 unfolding fmin
-fmin-r x y p q = pick (λ (z : Float). T (le z y)) (lt y x) x y (λ (n : T (lt y x)). le_refl y q) (not-lt→le y x q p)
+fmin_r x y p q = pick (λ (z : Float). T (le z y)) (lt y x) x y (λ (n : T (lt y x)). le_refl y q) (not_lt→le y x q p)
 
-pub fmin-is : (x y : Float) → (fmin x y ≡ x) ⊎ (fmin x y ≡ y)
+pub fmin_is : (x y : Float) → (fmin x y ≡ x) ⊎ (fmin x y ≡ y)
 unfolding fmin
-fmin-is x y = pick (λ (z : Float). (z ≡ x) ⊎ (z ≡ y)) (lt y x) x y (λ (n : T (lt y x)). inr refl) (λ (n : T (not (lt y x))). inl refl)
+fmin_is x y = pick (λ (z : Float). (z ≡ x) ⊎ (z ≡ y)) (lt y x) x y (λ (n : T (lt y x)). inr refl) (λ (n : T (not (lt y x))). inl refl)
 
 pub least_start : (x : Float) (ys : List Float) → T (real x) → T (le (least x ys) x)
 unfolding least
 least_start x [] p = le_refl x p
-least_start x (y ∷ ys) p = le_trans (least (fmin x y) ys) (fmin x y) x (least_start (fmin x y) ys (fmin-real x y p)) (fmin-l x y p)
+least_start x (y ∷ ys) p = le_trans (least (fmin x y) ys) (fmin x y) x (least_start (fmin x y) ys (fmin_real x y p)) (fmin_l x y p)
 
-pub least-le : (x : Float) (ys : List Float) (y : Float) → T (real x) → T (real y) → y ∈ ys → T (le (least x ys) y)
+pub least_le : (x : Float) (ys : List Float) (y : Float) → T (real x) → T (real y) → y ∈ ys → T (le (least x ys) y)
 unfolding least
-least-le x (v ∷ ys) y p q (here e) =
-    le_trans (least (fmin x v) ys) (fmin x v) y (least_start (fmin x v) ys (fmin-real x v p)) (subst (λ (z : Float). T (le (fmin x v) z)) (sym e) (fmin-r x v p (subst (λ (z : Float). T (real z)) e q)))
-least-le x (v ∷ ys) y p q (there m) = least-le (fmin x v) ys y (fmin-real x v p) q m
+least_le x (v ∷ ys) y p q (here e) =
+    le_trans (least (fmin x v) ys) (fmin x v) y (least_start (fmin x v) ys (fmin_real x v p)) (subst (λ (z : Float). T (le (fmin x v) z)) (sym e) (fmin_r x v p (subst (λ (z : Float). T (real z)) e q)))
+least_le x (v ∷ ys) y p q (there m) = least_le (fmin x v) ys y (fmin_real x v p) q m
 
-pub least-is : (x : Float) (ys : List Float) → (least x ys ≡ x) ⊎ (least x ys ∈ ys)
+pub least_is : (x : Float) (ys : List Float) → (least x ys ≡ x) ⊎ (least x ys ∈ ys)
 unfolding least
-least-is x [] = inl refl
-least-is x (y ∷ ys) = case (least-is (fmin x y) ys) (λ a. case (fmin-is x y) (λ b. inl (a ∙ b)) (λ b. inr (here (a ∙ b)))) (λ a. inr (there a))
+least_is x [] = inl refl
+least_is x (y ∷ ys) = case (least_is (fmin x y) ys) (λ a. case (fmin_is x y) (λ b. inl (a ∙ b)) (λ b. inr (here (a ∙ b)))) (λ a. inr (there a))

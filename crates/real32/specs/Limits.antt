@@ -21,9 +21,9 @@ unfolding sub
 undone = refl
 
 -- -0 and +0 are level, and two data; -0 + +0 is +0
-level-zeros : T (eq zn zp)
+level_zeros : T (eq zn zp)
 unfolding eq
-level-zeros = tt
+level_zeros = tt
 
 zeros : add binary32 zn zp ≡ zp
 unfolding add
@@ -39,27 +39,27 @@ unfolding add
 over = refl
 
 -- what does not fit is rounded, so there x + 0 can be below x: at 2 ^ 24 + 1
-rounded-down : T (lt (add binary32 (fin false 16777217 (pos 0)) zp) (fin false 16777217 (pos 0)))
+rounded_down : T (lt (add binary32 (fin false 16777217 (pos 0)) zp) (fin false 16777217 (pos 0)))
 unfolding add lt
-rounded-down = tt
+rounded_down = tt
 
 -- negating a sum can change the sign of a zero: -(1 - 1) is -0, and -1 + 1 is +0
 turned : neg (add binary32 (pow2 0) (neg (pow2 0))) ≡ zn
 unfolding add neg
 turned = refl
 
-turned-2 : add binary32 (neg (pow2 0)) (pow2 0) ≡ zp
+turned_2 : add binary32 (neg (pow2 0)) (pow2 0) ≡ zp
 unfolding add neg
-turned-2 = refl
+turned_2 = refl
 
 -- of values that do not fit, both below 2 ^ 100, the sum can be 2 ^ 101 itself: so a sum of two tame values is said to be at most that
-up-to-the-power : add binary32 (fin false 67108863 (pos 74)) (fin false 67108863 (pos 74)) ≡ pow2 101
+up_to_the_power : add binary32 (fin false 67108863 (pos 74)) (fin false 67108863 (pos 74)) ≡ pow2 101
 unfolding add
-up-to-the-power = refl
+up_to_the_power = refl
 
-both-tame : T (tame (fin false 67108863 (pos 74)))
+both_tame : T (tame (fin false 67108863 (pos 74)))
 unfolding tame lt neg
-both-tame = tt
+both_tame = tt
 
 -- and one that does not fit can vanish into -0
 vanished : add binary32 (fin true 1 (negsuc 160)) zn ≡ zn

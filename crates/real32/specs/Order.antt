@@ -7,10 +7,10 @@ use Rattle.std.specs.Float.{nan, inf, fin}
 use Rattle.std.specs.Float.Ieee.{up, down, lt, le, eq, neg, is_nan, below, level}
 use Rattle.std.specs.Float.Ieee.Fits.{down_pos, and_i, and_l, and_r, eq→eqb}
 use Rattle.std.specs.Float.Ieee.Scale.{finite}
-use Rattle.lists.specs.Tests.{lt-or-le, same, or_l, or_r, or_split}
+use Rattle.lists.specs.Tests.{lt_or_le, same, or_l, or_r, or_split}
 
-eqb-i : (a b : ℕ) → a ≡ b → T (eqb a b)
-eqb-i a b h = eq→eqb h
+eqb_i : (a b : ℕ) → a ≡ b → T (eqb a b)
+eqb_i a b h = eq→eqb h
 
 -- ---- not a NaN
 abbrev pub real : Float → Bool
@@ -18,16 +18,16 @@ real nan = false
 real (inf s) = true
 real (fin s m e) = true
 
-pub real-is : (x : Float) → real x ≡ not (is_nan x)
+pub real_is : (x : Float) → real x ≡ not (is_nan x)
 unfolding is_nan
-real-is nan = refl
-real-is (inf s) = refl
-real-is (fin s m e) = refl
+real_is nan = refl
+real_is (inf s) = refl
+real_is (fin s m e) = refl
 
-pub finite-real : (x : Float) → T (finite x) → T (real x)
-finite-real nan h = h
-finite-real (inf s) h = tt
-finite-real (fin s m e) h = tt
+pub finite_real : (x : Float) → T (finite x) → T (real x)
+finite_real nan h = h
+finite_real (inf s) h = tt
+finite_real (fin s m e) h = tt
 
 -- ---- the positive and the negative part of ±a
 abbrev pub pp : Bool → ℕ → ℕ
@@ -57,10 +57,10 @@ level→ true a d false b e h = omega (arith, eqb→eq (a * d) (b * e) (and_l (e
 level→ true a d true b e h = omega (arith, eqb→eq (a * d) (b * e) (and_l (eqb (a * d) (b * e)) true h))
 
 →level : (s : Bool) (a d : ℕ) (t : Bool) (b e : ℕ) → pp s a * d + nn t b * e ≡ pp t b * e + nn s a * d → T (level s (a * d) t (b * e))
-→level false a d false b e h = and_i (eqb (a * d) (b * e)) true (eqb-i (a * d) (b * e) (omega arith)) tt
-→level false a d true b e h = and_i (eqb (a * d) (b * e)) (eqb (a * d) 0) (eqb-i (a * d) (b * e) (omega arith)) (eqb-i (a * d) 0 (omega arith))
-→level true a d false b e h = and_i (eqb (a * d) (b * e)) (eqb (a * d) 0) (eqb-i (a * d) (b * e) (omega arith)) (eqb-i (a * d) 0 (omega arith))
-→level true a d true b e h = and_i (eqb (a * d) (b * e)) true (eqb-i (a * d) (b * e) (omega arith)) tt
+→level false a d false b e h = and_i (eqb (a * d) (b * e)) true (eqb_i (a * d) (b * e) (omega arith)) tt
+→level false a d true b e h = and_i (eqb (a * d) (b * e)) (eqb (a * d) 0) (eqb_i (a * d) (b * e) (omega arith)) (eqb_i (a * d) 0 (omega arith))
+→level true a d false b e h = and_i (eqb (a * d) (b * e)) (eqb (a * d) 0) (eqb_i (a * d) (b * e) (omega arith)) (eqb_i (a * d) 0 (omega arith))
+→level true a d true b e h = and_i (eqb (a * d) (b * e)) true (eqb_i (a * d) (b * e) (omega arith)) tt
 
 -- ---- a finite value is (P - N) / D
 abbrev pub P : Float → ℕ
@@ -133,7 +133,7 @@ le→cross x y p q h = elim (le_split x y h) [ inl a ↦ omega (arith, lt→cros
 
 pub cross→le : (x y : Float) → T (finite x) → T (finite y) → P x * D y + N y * D x ≤ P y * D x + N x * D y → T (le x y)
 cross→le x y p q h =
-    elim (lt-or-le (P x * D y + N y * D x) (P y * D x + N x * D y)) [
+    elim (lt_or_le (P x * D y + N y * D x) (P y * D x + N x * D y)) [
       | inl a ↦ lt→le x y (cross→lt x y p q a)
       | inr a ↦ eq→le x y (cross→eq x y p q (omega arith))
     ]
@@ -153,25 +153,25 @@ through p n d p' n' d' p'' n'' d'' Q h k =
     le_of_mul-le-mul_right (simp add-mul c) Q
 
 -- ---- where a comparison holds, neither side is a NaN
-pub le-real-l : (x y : Float) → T (le x y) → T (real x)
+pub le_real_l : (x y : Float) → T (le x y) → T (real x)
 unfolding le
-le-real-l nan y h = h
-le-real-l (inf s) y h = tt
-le-real-l (fin s m e) y h = tt
+le_real_l nan y h = h
+le_real_l (inf s) y h = tt
+le_real_l (fin s m e) y h = tt
 
-pub le-real-r : (x y : Float) → T (le x y) → T (real y)
+pub le_real_r : (x y : Float) → T (le x y) → T (real y)
 unfolding le
-le-real-r nan nan h = h
-le-real-r (inf s) nan h = h
-le-real-r (fin s m e) nan h = h
-le-real-r x (inf t) h = tt
-le-real-r x (fin t n d) h = tt
+le_real_r nan nan h = h
+le_real_r (inf s) nan h = h
+le_real_r (fin s m e) nan h = h
+le_real_r x (inf t) h = tt
+le_real_r x (fin t n d) h = tt
 
-pub lt-real-l : (x y : Float) → T (lt x y) → T (real x)
-lt-real-l x y h = le-real-l x y (lt→le x y h)
+pub lt_real_l : (x y : Float) → T (lt x y) → T (real x)
+lt_real_l x y h = le_real_l x y (lt→le x y h)
 
-pub lt-real-r : (x y : Float) → T (lt x y) → T (real y)
-lt-real-r x y h = le-real-r x y (lt→le x y h)
+pub lt_real_r : (x y : Float) → T (lt x y) → T (real y)
+lt_real_r x y h = le_real_r x y (lt→le x y h)
 
 -- ---- `le` is a total preorder
 pub le_refl : (x : Float) → T (real x) → T (le x x)
@@ -181,24 +181,24 @@ le_refl (inf false) h = unfold le in tt
 le_refl (fin s m e) h = cross→le (fin s m e) (fin s m e) tt tt (omega arith)
 
 -- -infinity is the least, and infinity the greatest
-pub le-bot : (y : Float) → T (real y) → T (le (inf true) y)
+pub le_bot : (y : Float) → T (real y) → T (le (inf true) y)
 unfolding le
-le-bot nan h = h
-le-bot (inf true) h = tt
-le-bot (inf false) h = tt
-le-bot (fin t n d) h = tt
+le_bot nan h = h
+le_bot (inf true) h = tt
+le_bot (inf false) h = tt
+le_bot (fin t n d) h = tt
 
-pub le-top : (x : Float) → T (real x) → T (le x (inf false))
+pub le_top : (x : Float) → T (real x) → T (le x (inf false))
 unfolding le
-le-top nan h = h
-le-top (inf true) h = tt
-le-top (inf false) h = tt
-le-top (fin t n d) h = tt
+le_top nan h = h
+le_top (inf true) h = tt
+le_top (inf false) h = tt
+le_top (fin t n d) h = tt
 
 pub le_trans : (x y z : Float) → T (le x y) → T (le y z) → T (le x z)
 unfolding le
 le_trans nan y z h k = absurd h
-le_trans (inf true) y z h k = le-bot z (le-real-r y z k)
+le_trans (inf true) y z h k = le_bot z (le_real_r y z k)
 le_trans (inf false) nan z h k = absurd h
 le_trans (inf false) (inf true) z h k = absurd h
 le_trans (inf false) (inf false) z h k = k
@@ -220,7 +220,7 @@ le_trans (fin s m e) (fin t n d) (fin u o c) h k =
 
 pub total : (x y : Float) → T (real x) → T (real y) → T (le x y) ⊎ T (lt y x)
 total nan y p q = absurd p
-total (inf true) y p q = inl (le-bot y q)
+total (inf true) y p q = inl (le_bot y q)
 total (inf false) nan p q = absurd q
 total (inf false) (inf true) p q = inr (unfold lt in tt)
 total (inf false) (inf false) p q = inl (unfold le in tt)
@@ -231,7 +231,7 @@ total (fin s m e) (inf false) p q = inl (unfold le in tt)
 total (fin s m e) (fin t n d) p q =
     let x = fin s m e in
     let y = fin t n d in
-    elim (lt-or-le (P y * D x + N x * D y) (P x * D y + N y * D x)) [
+    elim (lt_or_le (P y * D x + N x * D y) (P x * D y + N y * D x)) [
       | inl a ↦ inr (cross→lt y x tt tt a)
       | inr a ↦ inl (cross→le x y tt tt a)
     ]
@@ -252,32 +252,32 @@ lt_not_le (fin s m e) (inf false) h k = k
 lt_not_le (fin s m e) (fin t n d) h k = omega (arith, lt→cross (fin s m e) (fin t n d) tt tt h, le→cross (fin t n d) (fin s m e) tt tt k)
 
 -- ---- what follows from those
-pub not-lt→le : (x y : Float) → T (real x) → T (real y) → T (not (lt x y)) → T (le y x)
-not-lt→le x y p q h = elim (total y x q p) [ inl a ↦ a | inr a ↦ absurd (T_not (lt x y) h a) ]
+pub not_lt→le : (x y : Float) → T (real x) → T (real y) → T (not (lt x y)) → T (le y x)
+not_lt→le x y p q h = elim (total y x q p) [ inl a ↦ a | inr a ↦ absurd (T_not (lt x y) h a) ]
 
-pub not-le→lt : (x y : Float) → T (real x) → T (real y) → T (not (le x y)) → T (lt y x)
-not-le→lt x y p q h = elim (total x y p q) [ inl a ↦ absurd (T_not (le x y) h a) | inr a ↦ a ]
+pub not_le→lt : (x y : Float) → T (real x) → T (real y) → T (not (le x y)) → T (lt y x)
+not_le→lt x y p q h = elim (total x y p q) [ inl a ↦ absurd (T_not (le x y) h a) | inr a ↦ a ]
 
-pub le→not-lt : (x y : Float) → T (le y x) → T (not (lt x y))
-le→not-lt x y h = not_T (lt x y) (λ (a : T (lt x y)). lt_not_le x y a h)
+pub le→not_lt : (x y : Float) → T (le y x) → T (not (lt x y))
+le→not_lt x y h = not_T (lt x y) (λ (a : T (lt x y)). lt_not_le x y a h)
 
-pub lt→not-le : (x y : Float) → T (lt y x) → T (not (le x y))
-lt→not-le x y h = not_T (le x y) (λ (a : T (le x y)). lt_not_le y x h a)
+pub lt→not_le : (x y : Float) → T (lt y x) → T (not (le x y))
+lt→not_le x y h = not_T (le x y) (λ (a : T (le x y)). lt_not_le y x h a)
 
 -- as tests
-pub lt-is : (x y : Float) → T (real x) → T (real y) → lt x y ≡ not (le y x)
-lt-is x y p q = same (lt x y) (not (le y x)) (lt→not-le y x) (not-le→lt y x q p)
+pub lt_is : (x y : Float) → T (real x) → T (real y) → lt x y ≡ not (le y x)
+lt_is x y p q = same (lt x y) (not (le y x)) (lt→not_le y x) (not_le→lt y x q p)
 
 pub le_lt_trans : (x y z : Float) → T (le x y) → T (lt y z) → T (lt x z)
 le_lt_trans x y z h k =
-    elim (total z x (lt-real-r y z k) (le-real-l x y h)) [
+    elim (total z x (lt_real_r y z k) (le_real_l x y h)) [
       | inl a ↦ absurd (lt_not_le y z k (le_trans z x y a h))
       | inr a ↦ a
     ]
 
-pub lt-le-trans : (x y z : Float) → T (lt x y) → T (le y z) → T (lt x z)
-lt-le-trans x y z h k =
-    elim (total z x (le-real-r y z k) (lt-real-l x y h)) [
+pub lt_le_trans : (x y z : Float) → T (lt x y) → T (le y z) → T (lt x z)
+lt_le_trans x y z h k =
+    elim (total z x (le_real_r y z k) (lt_real_l x y h)) [
       | inl a ↦ absurd (lt_not_le x y h (le_trans y z x k a))
       | inr a ↦ a
     ]
@@ -288,8 +288,8 @@ lt_trans x y z h k = le_lt_trans x y z (lt→le x y h) k
 pub lt_irrefl : (x : Float) → T (lt x x) → ⊥
 lt_irrefl x h = lt_not_le x x h (lt→le x x h)
 
-pub lt-asym : (x y : Float) → T (lt x y) → T (lt y x) → ⊥
-lt-asym x y h k = lt_not_le x y h (lt→le y x k)
+pub lt_asym : (x y : Float) → T (lt x y) → T (lt y x) → ⊥
+lt_asym x y h k = lt_not_le x y h (lt→le y x k)
 
 pub trichotomy : (x y : Float) → T (real x) → T (real y) → T (lt x y) ⊎ (T (eq x y) ⊎ T (lt y x))
 trichotomy x y p q = elim (total x y p q) [ inl a ↦ go (le_split x y a) | inr a ↦ inr (inr a) ]
@@ -299,21 +299,21 @@ trichotomy x y p q = elim (total x y p q) [ inl a ↦ go (le_split x y a) | inr 
     go (inr a) = inr (inl a)
 
 -- ---- `eq` is `le` both ways
-pub eq-sym : (x y : Float) → T (eq x y) → T (eq y x)
+pub eq_sym : (x y : Float) → T (eq x y) → T (eq y x)
 unfolding eq
-eq-sym nan y h = absurd h
-eq-sym (inf s) nan h = absurd h
-eq-sym (inf true) (inf true) h = tt
-eq-sym (inf true) (inf false) h = h
-eq-sym (inf false) (inf true) h = h
-eq-sym (inf false) (inf false) h = tt
-eq-sym (inf s) (fin t n d) h = absurd h
-eq-sym (fin s m e) nan h = absurd h
-eq-sym (fin s m e) (inf t) h = absurd h
-eq-sym (fin s m e) (fin t n d) h = cross→eq (fin t n d) (fin s m e) tt tt (omega (arith, eq→cross (fin s m e) (fin t n d) tt tt h))
+eq_sym nan y h = absurd h
+eq_sym (inf s) nan h = absurd h
+eq_sym (inf true) (inf true) h = tt
+eq_sym (inf true) (inf false) h = h
+eq_sym (inf false) (inf true) h = h
+eq_sym (inf false) (inf false) h = tt
+eq_sym (inf s) (fin t n d) h = absurd h
+eq_sym (fin s m e) nan h = absurd h
+eq_sym (fin s m e) (inf t) h = absurd h
+eq_sym (fin s m e) (fin t n d) h = cross→eq (fin t n d) (fin s m e) tt tt (omega (arith, eq→cross (fin s m e) (fin t n d) tt tt h))
 
 pub eq→ge : (x y : Float) → T (eq x y) → T (le y x)
-eq→ge x y h = eq→le y x (eq-sym x y h)
+eq→ge x y h = eq→le y x (eq_sym x y h)
 
 pub le_antisym : (x y : Float) → T (le x y) → T (le y x) → T (eq x y)
 le_antisym x y h k = elim (le_split x y h) [ inl a ↦ absurd (lt_not_le x y a k) | inr a ↦ a ]
@@ -329,90 +329,90 @@ eq_is x y =
     same (eq x y) (le x y && le y x) (λ (h : T (eq x y)). and_i (le x y) (le y x) (eq→le x y h) (eq→ge x y h))
     (λ (h : T (le x y && le y x)). le_antisym x y (and_l (le x y) (le y x) h) (and_r (le x y) (le y x) h))
 
-pub eq→not-lt : (x y : Float) → T (eq x y) → T (not (lt x y))
-eq→not-lt x y h = le→not-lt x y (eq→ge x y h)
+pub eq→not_lt : (x y : Float) → T (eq x y) → T (not (lt x y))
+eq→not_lt x y h = le→not_lt x y (eq→ge x y h)
 
 -- level values compare alike, as tests, with no condition on the third value
-pub le-cong : (x x' y y' : Float) → T (eq x x') → T (eq y y') → le x y ≡ le x' y'
-le-cong x x' y y' h k =
+pub le_cong : (x x' y y' : Float) → T (eq x x') → T (eq y y') → le x y ≡ le x' y'
+le_cong x x' y y' h k =
     same (le x y) (le x' y') (λ (a : T (le x y)). le_trans x' x y' (eq→ge x x' h) (le_trans x y y' a (eq→le y y' k)))
     (λ (a : T (le x' y')). le_trans x x' y (eq→le x x' h) (le_trans x' y' y a (eq→ge y y' k)))
 
-pub lt-cong : (x x' y y' : Float) → T (eq x x') → T (eq y y') → lt x y ≡ lt x' y'
-lt-cong x x' y y' h k =
-    same (lt x y) (lt x' y') (λ (a : T (lt x y)). le_lt_trans x' x y' (eq→ge x x' h) (lt-le-trans x y y' a (eq→le y y' k)))
-    (λ (a : T (lt x' y')). le_lt_trans x x' y (eq→le x x' h) (lt-le-trans x' y' y a (eq→ge y y' k)))
+pub lt_cong : (x x' y y' : Float) → T (eq x x') → T (eq y y') → lt x y ≡ lt x' y'
+lt_cong x x' y y' h k =
+    same (lt x y) (lt x' y') (λ (a : T (lt x y)). le_lt_trans x' x y' (eq→ge x x' h) (lt_le_trans x y y' a (eq→le y y' k)))
+    (λ (a : T (lt x' y')). le_lt_trans x x' y (eq→le x x' h) (lt_le_trans x' y' y a (eq→ge y y' k)))
 
 -- ---- `neg` turns the order round
-pub neg-neg : (x : Float) → neg (neg x) ≡ x
+pub neg_neg : (x : Float) → neg (neg x) ≡ x
 unfolding neg
-neg-neg nan = refl
-neg-neg (inf true) = refl
-neg-neg (inf false) = refl
-neg-neg (fin true m e) = refl
-neg-neg (fin false m e) = refl
+neg_neg nan = refl
+neg_neg (inf true) = refl
+neg_neg (inf false) = refl
+neg_neg (fin true m e) = refl
+neg_neg (fin false m e) = refl
 
-pub neg-real : (x : Float) → T (real x) → T (real (neg x))
+pub neg_real : (x : Float) → T (real x) → T (real (neg x))
 unfolding neg
-neg-real nan h = h
-neg-real (inf s) h = tt
-neg-real (fin s m e) h = tt
+neg_real nan h = h
+neg_real (inf s) h = tt
+neg_real (fin s m e) h = tt
 
-pub neg-finite : (x : Float) → T (finite x) → T (finite (neg x))
+pub neg_finite : (x : Float) → T (finite x) → T (finite (neg x))
 unfolding neg
-neg-finite nan h = h
-neg-finite (inf s) h = h
-neg-finite (fin s m e) h = tt
+neg_finite nan h = h
+neg_finite (inf s) h = h
+neg_finite (fin s m e) h = tt
 
 turn : (s : Bool) (a : ℕ) → (pp (not s) a ≡ nn s a) × (nn (not s) a ≡ pp s a)
 turn true a = (refl, refl)
 turn false a = (refl, refl)
 
-pub neg-le : (x y : Float) → T (le x y) → T (le (neg y) (neg x))
+pub neg_le : (x y : Float) → T (le x y) → T (le (neg y) (neg x))
 unfolding le neg
-neg-le nan y h = absurd h
-neg-le (inf true) nan h = absurd h
-neg-le (inf false) nan h = absurd h
-neg-le (inf true) (inf true) h = tt
-neg-le (inf true) (inf false) h = tt
-neg-le (inf false) (inf true) h = h
-neg-le (inf false) (inf false) h = tt
-neg-le (inf true) (fin t n d) h = tt
-neg-le (inf false) (fin t n d) h = absurd h
-neg-le (fin s m e) nan h = absurd h
-neg-le (fin s m e) (inf true) h = absurd h
-neg-le (fin s m e) (inf false) h = tt
-neg-le (fin s m e) (fin t n d) h =
+neg_le nan y h = absurd h
+neg_le (inf true) nan h = absurd h
+neg_le (inf false) nan h = absurd h
+neg_le (inf true) (inf true) h = tt
+neg_le (inf true) (inf false) h = tt
+neg_le (inf false) (inf true) h = h
+neg_le (inf false) (inf false) h = tt
+neg_le (inf true) (fin t n d) h = tt
+neg_le (inf false) (fin t n d) h = absurd h
+neg_le (fin s m e) nan h = absurd h
+neg_le (fin s m e) (inf true) h = absurd h
+neg_le (fin s m e) (inf false) h = tt
+neg_le (fin s m e) (fin t n d) h =
     let k : pp s (m * up e) * down d + nn t (n * up d) * down e ≤ pp t (n * up d) * down e + nn s (m * up e) * down d = le→cross (fin s m e) (fin t n d) tt tt h in
     cross→le (fin (not t) n d) (fin (not s) m e) tt tt (simp ((turn s (m * up e)).0, (turn s (m * up e)).1, (turn t (n * up d)).0, (turn t (n * up d)).1) (omega arith))
 
-pub neg-lt : (x y : Float) → T (lt x y) → T (lt (neg y) (neg x))
-neg-lt x y h =
-    elim (total (neg x) (neg y) (neg-real x (lt-real-l x y h)) (neg-real y (lt-real-r x y h))) [
-      | inl a ↦ absurd (lt_not_le x y h (subst (λ (z : Float). T (le z x)) (neg-neg y) (subst (λ (z : Float). T (le (neg (neg y)) z)) (neg-neg x) (neg-le (neg x) (neg y) a))))
+pub neg_lt : (x y : Float) → T (lt x y) → T (lt (neg y) (neg x))
+neg_lt x y h =
+    elim (total (neg x) (neg y) (neg_real x (lt_real_l x y h)) (neg_real y (lt_real_r x y h))) [
+      | inl a ↦ absurd (lt_not_le x y h (subst (λ (z : Float). T (le z x)) (neg_neg y) (subst (λ (z : Float). T (le (neg (neg y)) z)) (neg_neg x) (neg_le (neg x) (neg y) a))))
       | inr a ↦ a
     ]
 
-pub neg-eq : (x y : Float) → T (eq x y) → T (eq (neg x) (neg y))
-neg-eq x y h = le_antisym (neg x) (neg y) (neg-le y x (eq→ge x y h)) (neg-le x y (eq→le x y h))
+pub neg_eq : (x y : Float) → T (eq x y) → T (eq (neg x) (neg y))
+neg_eq x y h = le_antisym (neg x) (neg y) (neg_le y x (eq→ge x y h)) (neg_le x y (eq→le x y h))
 
 -- ---- infinities
-pub lt-inf : (x : Float) → T (finite x) → T (lt x (inf false))
+pub lt_inf : (x : Float) → T (finite x) → T (lt x (inf false))
 unfolding lt
-lt-inf nan h = h
-lt-inf (inf s) h = absurd h
-lt-inf (fin s m e) h = tt
+lt_inf nan h = h
+lt_inf (inf s) h = absurd h
+lt_inf (fin s m e) h = tt
 
-pub inf-lt : (x : Float) → T (finite x) → T (lt (inf true) x)
+pub inf_lt : (x : Float) → T (finite x) → T (lt (inf true) x)
 unfolding lt
-inf-lt nan h = h
-inf-lt (inf s) h = absurd h
-inf-lt (fin s m e) h = tt
+inf_lt nan h = h
+inf_lt (inf s) h = absurd h
+inf_lt (fin s m e) h = tt
 
 -- what lies between two finite values is finite
 pub between : (a x b : Float) → T (finite a) → T (finite b) → T (le a x) → T (le x b) → T (finite x)
 unfolding le
 between a nan b p q h k = k
-between a (inf true) b p q h k = absurd (lt_not_le (inf true) a (inf-lt a p) h)
-between a (inf false) b p q h k = absurd (lt_not_le b (inf false) (lt-inf b q) k)
+between a (inf true) b p q h k = absurd (lt_not_le (inf true) a (inf_lt a p) h)
+between a (inf false) b p q h k = absurd (lt_not_le b (inf false) (lt_inf b q) k)
 between a (fin s m e) b p q h k = tt

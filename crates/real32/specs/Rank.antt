@@ -43,8 +43,8 @@ leading p b t h =
     let k = size b - p in
     (le-div_iff_mul-le (pow_pos k)).1 (Nat.le_trans (le_of_eq (sym (pow-add 2 (p - 1) k))) (size_reaches b (p - 1 + k) (omega arith)))
 
-pub mag-mono : (f : Format) (a b : ℕ) → a ≤ b → mag f a ≤ mag f b
-mag-mono f a b h =
+pub mag_mono : (f : Format) (a b : ℕ) → a ≤ b → mag f a ≤ mag f b
+mag_mono f a b h =
     let p = prec f in
     let j = size a - p in
     let k = size b - p in
@@ -58,16 +58,16 @@ mag-mono f a b h =
     ]
 
 -- ---- its bounds
-mag-one : (f : Format) → mag f 1 ≡ 1
+mag_one : (f : Format) → mag f 1 ≡ 1
 unfolding size
-mag-one binary32 = refl
-mag-one binary64 = refl
+mag_one binary32 = refl
+mag_one binary64 = refl
 
-mag-pos : (f : Format) (n : ℕ) → 0 < n → 0 < mag f n
-mag-pos f n h = omega (arith, mag-mono f 1 n h, mag-one f)
+mag_pos : (f : Format) (n : ℕ) → 0 < n → 0 < mag f n
+mag_pos f n h = omega (arith, mag_mono f 1 n h, mag_one f)
 
-unit-pos : (f : Format) (s : Bool) (m : ℕ) (e : ℤ) → T (fits f (fin s m e)) → 0 < m → 0 < unit f m e
-unit-pos f s m e p h =
+unit_pos : (f : Format) (s : Bool) (m : ℕ) (e : ℤ) → T (fits f (fin s m e)) → 0 < m → 0 < unit f m e
+unit_pos f s m e p h =
     let u = units_of f s m e p in
     rw (u.value, mul-div_cancel (m * 2 ^ u.shift) (down_pos e)) (mul-pos h (pow_pos u.shift))
 
@@ -76,63 +76,63 @@ unfolding fits
 any_sign f s t zero e p = p
 any_sign f s t (suc m) e p = p
 
-no-inf : (s t : Bool) (m : ℕ) (e : ℤ) → fin s m e ≡ inf t → ⊥
-no-inf s t m e h = subst (λ (x : Float). T (lib.Ieee.Scale.finite x)) h tt
+no_inf : (s t : Bool) (m : ℕ) (e : ℤ) → fin s m e ≡ inf t → ⊥
+no_inf s t m e h = subst (λ (x : Float). T (lib.Ieee.Scale.finite x)) h tt
 
-bits-inf : (f : Format) → to_bits f (inf false) ≡ ones f * hid f
+bits_inf : (f : Format) → to_bits f (inf false) ≡ ones f * hid f
 unfolding to_bits
-bits-inf f = zero-add (ones f * hid f)
+bits_inf f = zero-add (ones f * hid f)
 
-bits-false : (f : Format) (m : ℕ) (e : ℤ) → to_bits f (fin false m e) ≡ mag f (unit f m e)
-bits-false f m e = to_bits_is f false m e ∙ omega arith
+bits_false : (f : Format) (m : ℕ) (e : ℤ) → to_bits f (fin false m e) ≡ mag f (unit f m e)
+bits_false f m e = to_bits_is f false m e ∙ omega arith
 
-mag-under : (f : Format) (s : Bool) (m : ℕ) (e : ℤ) → T (fits f (fin s m e)) → mag f (unit f m e) < top f
-mag-under f s m e p = omega (arith, to_bits-lt f (fin true m e) (any_sign f s true m e p), to_bits_is f true m e)
+mag_under : (f : Format) (s : Bool) (m : ℕ) (e : ℤ) → T (fits f (fin s m e)) → mag f (unit f m e) < top f
+mag_under f s m e p = omega (arith, to_bits-lt f (fin true m e) (any_sign f s true m e p), to_bits_is f true m e)
 
-pub mag-lt : (f : Format) (s : Bool) (m : ℕ) (e : ℤ) → T (fits f (fin s m e)) → mag f (unit f m e) < ones f * hid f
-mag-lt f s m e p =
+pub mag_lt : (f : Format) (s : Bool) (m : ℕ) (e : ℤ) → T (fits f (fin s m e)) → mag f (unit f m e) < ones f * hid f
+mag_lt f s m e p =
     let x = fin false m e in
     let q = any_sign f s false m e p in
     let b = to_bits f x in
-    let i : nan_bits f b ≡ false = nan_bits_is f b ∙ ap is_nan (of_bits-to_bits f x q) ∙ not-nan m e in
-    let c : b ≡ mag f (unit f m e) = bits-false f m e in
-    let w : b < top f = omega (arith, mag-under f s m e p) in
+    let i : nan_bits f b ≡ false = nan_bits_is f b ∙ ap is_nan (of_bits-to_bits f x q) ∙ not_nan m e in
+    let c : b ≡ mag f (unit f m e) = bits_false f m e in
+    let w : b < top f = omega (arith, mag_under f s m e p) in
     let v : T (not (ltb (ones f * hid f) b)) = subst (λ (z : ℕ). T (not (ltb (ones f * hid f) z))) (mod-eq_of_lt w) (subst (λ (z : Bool). T (not z)) (sym i ∙ nan_bits_above f b) tt) in
     elim (eq-or-lt_of_le (nltb→le (ones f * hid f) b v)) [
-      | inl g ↦ absurd (no-inf false false m e (sym (of_bits-to_bits f x q) ∙ ap (of_bits f) (g ∙ sym (bits-inf f)) ∙ of_bits-to_bits f (inf false) (inf-fits f false)))
+      | inl g ↦ absurd (no_inf false false m e (sym (of_bits-to_bits f x q) ∙ ap (of_bits f) (g ∙ sym (bits_inf f)) ∙ of_bits-to_bits f (inf false) (inf-fits f false)))
       | inr g ↦ omega arith
     ]
   where
-    not-nan : (m : ℕ) (e : ℤ) → is_nan (fin false m e) ≡ false
-    not-nan m e = unfold is_nan in refl
+    not_nan : (m : ℕ) (e : ℤ) → is_nan (fin false m e) ≡ false
+    not_nan m e = unfold is_nan in refl
 
 -- ---- one place, one value
-pat-is : (f : Format) (s : Bool) (n : ℕ) → pat f s n ≡ cond s (top f) 0 + mag f n
-pat-is f s n = Nat.add_assoc (cond s (top f) 0) ((size n - prec f) * hid f) (n / 2 ^ (size n - prec f))
+pat_is : (f : Format) (s : Bool) (n : ℕ) → pat f s n ≡ cond s (top f) 0 + mag f n
+pat_is f s n = Nat.add_assoc (cond s (top f) 0) ((size n - prec f) * hid f) (n / 2 ^ (size n - prec f))
 
 inj : (f : Format) (s : Bool) (m : ℕ) (e : ℤ) (n : ℕ) (d : ℤ) → T (fits f (fin s m e)) → T (fits f (fin s n d)) → mag f (unit f m e) ≡ mag f (unit f n d) → fin s m e ≡ fin s n d
 inj f s m e n d p q h =
     sym (of_bits-to_bits f (fin s m e) p)
     ∙ ap (of_bits f)
-    (to_bits_is f s m e ∙ pat-is f s (unit f m e) ∙ ap (λ (z : ℕ). cond s (top f) 0 + z) h ∙ sym (pat-is f s (unit f n d)) ∙ sym (to_bits_is f s n d))
+    (to_bits_is f s m e ∙ pat_is f s (unit f m e) ∙ ap (λ (z : ℕ). cond s (top f) 0 + z) h ∙ sym (pat_is f s (unit f n d)) ∙ sym (to_bits_is f s n d))
     ∙ of_bits-to_bits f (fin s n d) q
 
-unit-le : (f : Format) (m : ℕ) (e : ℤ) (n : ℕ) (d : ℤ) → m * up e * down d ≤ n * up d * down e → unit f m e ≤ unit f n d
-unit-le f m e n d h =
+unit_le : (f : Format) (m : ℕ) (e : ℤ) (n : ℕ) (d : ℤ) → m * up e * down d ≤ n * up d * down e → unit f m e ≤ unit f n d
+unit_le f m e n d h =
     let L = 2 ^ low f in
     div_mono (m * up e * L) (down e) (n * up d * L) (down d) (down_pos e) (down_pos d)
     (rw (mul_right_comm (m * up e) L (down d), mul_right_comm (n * up d) L (down e)) (mul-le-mul_right L h))
 
-mag-strict : (f : Format) (s : Bool) (m : ℕ) (e : ℤ) (n : ℕ) (d : ℤ) → T (fits f (fin s m e)) → T (fits f (fin s n d)) → (fin s m e ≡ fin s n d → ⊥)
+mag_strict : (f : Format) (s : Bool) (m : ℕ) (e : ℤ) (n : ℕ) (d : ℤ) → T (fits f (fin s m e)) → T (fits f (fin s n d)) → (fin s m e ≡ fin s n d → ⊥)
     → m * up e * down d ≤ n * up d * down e → mag f (unit f m e) < mag f (unit f n d)
-mag-strict f s m e n d p q w h =
-    elim (eq-or-lt_of_le (mag-mono f (unit f m e) (unit f n d) (unit-le f m e n d h))) [
+mag_strict f s m e n d p q w h =
+    elim (eq-or-lt_of_le (mag_mono f (unit f m e) (unit f n d) (unit_le f m e n d h))) [
       | inl g ↦ absurd (w (inj f s m e n d p q g))
       | inr g ↦ g
     ]
 
-lt-apart : (x y : Float) → T (lt x y) → x ≡ y → ⊥
-lt-apart x y h e = lt_irrefl x (rw (← e) at h)
+lt_apart : (x y : Float) → T (lt x y) → x ≡ y → ⊥
+lt_apart x y h e = lt_irrefl x (rw (← e) at h)
 
 consts : (f : Format) → (ones f * hid f < top f) × (0 < ones f * hid f)
 consts binary32 = (lit< tt, lit< tt)
@@ -154,35 +154,35 @@ rank_lt f (inf s) nan p q h = absurd h
 rank_lt f (inf true) (inf true) p q h = absurd h
 rank_lt f (inf true) (inf false) p q h = omega (arith, consts f)
 rank_lt f (inf false) (inf t) p q h = absurd h
-rank_lt f (inf true) (fin true n d) p q h = omega (arith, consts f, mag-lt f true n d q)
+rank_lt f (inf true) (fin true n d) p q h = omega (arith, consts f, mag_lt f true n d q)
 rank_lt f (inf true) (fin false n d) p q h = omega (arith, consts f)
 rank_lt f (inf false) (fin t n d) p q h = absurd h
 rank_lt f (fin s m e) nan p q h = absurd h
 rank_lt f (fin s m e) (inf true) p q h = absurd h
 rank_lt f (fin true m e) (inf false) p q h = omega (arith, consts f)
-rank_lt f (fin false m e) (inf false) p q h = omega (arith, mag-lt f false m e p)
+rank_lt f (fin false m e) (inf false) p q h = omega (arith, mag_lt f false m e p)
 rank_lt f (fin true m e) (fin true n d) p q h =
     omega (
       arith,
-      mag-under f true m e p,
-      mag-strict f true n d m e q p (λ (g : fin true n d ≡ fin true m e). lt-apart (fin true m e) (fin true n d) h (sym g)) (omega (arith, lt→cross (fin true m e) (fin true n d) tt tt h)),
+      mag_under f true m e p,
+      mag_strict f true n d m e q p (λ (g : fin true n d ≡ fin true m e). lt_apart (fin true m e) (fin true n d) h (sym g)) (omega (arith, lt→cross (fin true m e) (fin true n d) tt tt h)),
     )
 rank_lt f (fin false m e) (fin false n d) p q h =
-    omega (arith, mag-strict f false m e n d p q (lt-apart (fin false m e) (fin false n d) h) (omega (arith, lt→cross (fin false m e) (fin false n d) tt tt h)))
+    omega (arith, mag_strict f false m e n d p q (lt_apart (fin false m e) (fin false n d) h) (omega (arith, lt→cross (fin false m e) (fin false n d) tt tt h)))
 rank_lt f (fin false m e) (fin true n d) p q h = absurd h
 rank_lt f (fin true m e) (fin false n d) p q h =
     elim (one_of (m * up e * down d) (n * up d * down e) (ltb→lt 0 (m * up e * down d + n * up d * down e) h)) [
-      | inl a ↦ omega (arith, mag-under f true m e p, mag-pos f (unit f m e) (unit-pos f true m e p (first m (up e) (down d) a)))
-      | inr a ↦ omega (arith, mag-pos f (unit f n d) (unit-pos f false n d q (first n (up d) (down e) a)))
+      | inl a ↦ omega (arith, mag_under f true m e p, mag_pos f (unit f m e) (unit_pos f true m e p (first m (up e) (down d) a)))
+      | inr a ↦ omega (arith, mag_pos f (unit f n d) (unit_pos f false n d q (first n (up d) (down e) a)))
     ]
 
-pub rank-bound : (f : Format) (x : Float) → T (fits f x) → rank f x < 2 * top f
+pub rank_bound : (f : Format) (x : Float) → T (fits f x) → rank f x < 2 * top f
 unfolding rank
-rank-bound f nan p = omega (arith, consts f)
-rank-bound f (inf true) p = omega (arith, consts f)
-rank-bound f (inf false) p = omega (arith, consts f)
-rank-bound f (fin true m e) p = omega (arith, consts f)
-rank-bound f (fin false m e) p = omega (arith, mag-under f false m e p)
+rank_bound f nan p = omega (arith, consts f)
+rank_bound f (inf true) p = omega (arith, consts f)
+rank_bound f (inf false) p = omega (arith, consts f)
+rank_bound f (fin true m e) p = omega (arith, consts f)
+rank_bound f (fin false m e) p = omega (arith, mag_under f false m e p)
 
-pub rank-32 : (x : Float) → T (fits binary32 x) → rank binary32 x < 2 ^ 32
-rank-32 x p = rank-bound binary32 x p
+pub rank_32 : (x : Float) → T (fits binary32 x) → rank binary32 x < 2 ^ 32
+rank_32 x p = rank_bound binary32 x p

@@ -3,12 +3,12 @@
 // loser's phone and the winner's; and a place for the compaction's marks. `labels` has two: its word (0 for none) and the losing arc's. `gaps` has two: what the kept history
 // cost over the winner, and its graph sum likewise. A record with neither word nor phone is a join.
 ghost use Rattle.std.specs.Prelude.{◌≡◌, ◌+◌, ◌-◌, ◌*◌, ◌≤◌, ◌<◌, length};
-ghost use Rattle.records.specs.Layout.{prevAt, frame_at, startsAt, kept_at, wordAt, costAt, keptWordAt, keptStartsAt, keptPhoneAt, winnerAt, store};
+ghost use Rattle.records.specs.Layout.{prev_at, frame_at, starts_at, kept_at, word_at, cost_at, kept_word_at, kept_starts_at, kept_phone_at, winner_at, store};
 ghost use Rattle.records.specs.Puts.{LinkPut, JoinPut};
 
 pub fn prev_of(records: &[u32], r: u32) -> u32
     requires { (0 < r) × (r * 8 ≤ length records.now) }
-    ensures { result ≡ prevAt records.now (r - 1) }
+    ensures { result ≡ prev_at records.now (r - 1) }
 {
     records[(r - 1) as usize * 8]
 }
@@ -22,7 +22,7 @@ pub fn frame_of(records: &[u32], r: u32) -> u32
 
 pub fn starts_of(records: &[u32], r: u32) -> u32
     requires { (0 < r) × (r * 8 ≤ length records.now) }
-    ensures { result ≡ startsAt records.now (r - 1) }
+    ensures { result ≡ starts_at records.now (r - 1) }
 {
     records[(r - 1) as usize * 8 + 2]
 }
@@ -36,14 +36,14 @@ pub fn kept_of(records: &[u32], r: u32) -> u32
 
 pub fn word_of(labels: &[i32], r: u32) -> i32
     requires { (0 < r) × (r * 2 ≤ length labels.now) }
-    ensures { result ≡ wordAt labels.now (r - 1) }
+    ensures { result ≡ word_at labels.now (r - 1) }
 {
     labels[(r - 1) as usize * 2]
 }
 
 pub fn cost_of(gaps: &[f32], r: u32) -> f32
     requires { (0 < r) × (r * 2 ≤ length gaps.now) }
-    ensures { result ≡ costAt gaps.now (r - 1) }
+    ensures { result ≡ cost_at gaps.now (r - 1) }
 {
     gaps[(r - 1) as usize * 2]
 }
@@ -115,28 +115,28 @@ pub fn put_join(
 // What a join keeps beside its kept history.
 pub fn kept_word_of(labels: &[i32], r: u32) -> i32
     requires { (0 < r) × (r * 2 ≤ length labels.now) }
-    ensures { result ≡ keptWordAt labels.now (r - 1) }
+    ensures { result ≡ kept_word_at labels.now (r - 1) }
 {
     labels[(r - 1) as usize * 2 + 1]
 }
 
 pub fn kept_starts_of(records: &[u32], r: u32) -> u32
     requires { (0 < r) × (r * 8 ≤ length records.now) }
-    ensures { result ≡ keptStartsAt records.now (r - 1) }
+    ensures { result ≡ kept_starts_at records.now (r - 1) }
 {
     records[(r - 1) as usize * 8 + 4]
 }
 
 pub fn kept_phone_of(records: &[u32], r: u32) -> u32
     requires { (0 < r) × (r * 8 ≤ length records.now) }
-    ensures { result ≡ keptPhoneAt records.now (r - 1) }
+    ensures { result ≡ kept_phone_at records.now (r - 1) }
 {
     records[(r - 1) as usize * 8 + 5]
 }
 
 pub fn winner_of(records: &[u32], r: u32) -> u32
     requires { (0 < r) × (r * 8 ≤ length records.now) }
-    ensures { result ≡ winnerAt records.now (r - 1) }
+    ensures { result ≡ winner_at records.now (r - 1) }
 {
     records[(r - 1) as usize * 8 + 6]
 }

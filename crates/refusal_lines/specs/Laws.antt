@@ -4,8 +4,8 @@ use Rattle.std.proofs.Common.{sym, ap, ◌∙◌, arith, ltb-true, leb-true, eqb
 use Rattle.lists.specs.Lists.{all}
 use Rattle.lists.specs.Tests.{case, either, and_both}
 use Rattle.decimals.specs.Decimal.{digits, decimal}
-use Rattle.decimals.specs.Numbers.{outside, withDigit, numbersFrom, numbersIn, none}
-use Rattle.decimals.specs.RoundTrip.{plain, decimal-length, numbers-append, text-after, number-after}
+use Rattle.decimals.specs.Numbers.{outside, with_digit, numbers_from, numbers_in, none}
+use Rattle.decimals.specs.RoundTrip.{plain, decimal-length, numbers-append, text_after, number_after}
 use Rattle.decimals.specs.declared.Numbers.{Numbers}
 use Rattle.refusals.specs.declared.Place.{Place}
 use Rattle.refusals.specs.declared.Place.TheVariants.{Nowhere, AtArc, AtState, AtFrames}
@@ -13,45 +13,45 @@ use Rattle.refusals.specs.declared.Refusal.{Refusal}
 use Rattle.refusal_lines.specs.declared.Written.TheVariants.{Length}
 use Rattle.refusal_lines.specs.declared.Read.{Read}
 use Rattle.refusal_lines.specs.declared.Read.TheVariants.{Line, Nothing}
-use Rattle.refusal_lines.specs.Line.{text, numbered, unnamed, names, named, name_of, placeText, between, alwaysPlaced, mayHave, heading, line_of, refusalOf}
+use Rattle.refusal_lines.specs.Line.{text, numbered, unnamed, names, named, name_of, place_text, between, always_placed, may_have, heading, line_of, refusal_of}
 use Rattle.refusal_lines.specs.Answer.{WrittenLine, PlaceFits, Fits, IsRefusal, ReadLine}
 
 -- ---- names
 
 -- without digits, not empty, and of at most 40 bytes
-goodName : List ℕ → Bool
-goodName t = plain t && ltb 0 (length t) && leb (length t) 40
+good_name : List ℕ → Bool
+good_name t = plain t && ltb 0 (length t) && leb (length t) 40
 
-all-at : (p : List ℕ → Bool) (ts : List (List ℕ)) (n : ℕ) (d : List ℕ) → all p ts ≡ true → p d ≡ true → p (get_or ts n d) ≡ true
-all-at p [] n d h k = k
-all-at p (t ∷ ts) zero d h k = (and_both (p t) (all p ts) h).0
-all-at p (t ∷ ts) (suc n) d h k = all-at p ts n d (and_both (p t) (all p ts) h).1 k
+all_at : (p : List ℕ → Bool) (ts : List (List ℕ)) (n : ℕ) (d : List ℕ) → all p ts ≡ true → p d ≡ true → p (get_or ts n d) ≡ true
+all_at p [] n d h k = k
+all_at p (t ∷ ts) zero d h k = (and_both (p t) (all p ts) h).0
+all_at p (t ∷ ts) (suc n) d h k = all_at p ts n d (and_both (p t) (all p ts) h).1 k
 
-name-good : (n : ℕ) → goodName (name_of n) ≡ true
-unfolding goodName name_of names unnamed text
-name-good n = all-at (λ t. goodName (named t)) names n unnamed refl refl
+name_good : (n : ℕ) → good_name (name_of n) ≡ true
+unfolding good_name name_of names unnamed text
+name_good n = all_at (λ t. good_name (named t)) names n unnamed refl refl
 
-name-plain : (n : ℕ) → plain (name_of n) ≡ true
-unfolding goodName
-name-plain n = let (a, b) = and_both (plain (name_of n) && ltb 0 (length (name_of n))) _ (name-good n) in (and_both (plain (name_of n)) _ a).0
+name_plain : (n : ℕ) → plain (name_of n) ≡ true
+unfolding good_name
+name_plain n = let (a, b) = and_both (plain (name_of n) && ltb 0 (length (name_of n))) _ (name_good n) in (and_both (plain (name_of n)) _ a).0
 
-pub name-length : (n : ℕ) → (0 < length (name_of n)) × (length (name_of n) ≤ 40)
-unfolding goodName
-name-length n =
-    let (a, b) = and_both (plain (name_of n) && ltb 0 (length (name_of n))) _ (name-good n) in
+pub name_length : (n : ℕ) → (0 < length (name_of n)) × (length (name_of n) ≤ 40)
+unfolding good_name
+name_length n =
+    let (a, b) = and_both (plain (name_of n) && ltb 0 (length (name_of n))) _ (name_good n) in
     (ltb-true _ _ (and_both (plain (name_of n)) _ a).1, leb-true _ _ b)
 
 -- ---- lengths
 
-pub numbered-parts : (label : List ℕ) (n : ℕ) → length (numbered label n) ≡ length label + length (decimal n) + 1
+pub numbered_parts : (label : List ℕ) (n : ℕ) → length (numbered label n) ≡ length label + length (decimal n) + 1
 unfolding numbered text
-numbered-parts label n = simp length-append
+numbered_parts label n = simp length-append
 
 pub numbered-length : (label : List ℕ) (n : ℕ) → length (numbered label n) ≤ length label + 11
-numbered-length label n = omega (arith, numbered-parts label n, decimal-length n)
+numbered-length label n = omega (arith, numbered_parts label n, decimal-length n)
 
-pub place-length : (p : Place) → length (placeText p) ≤ 34
-unfolding placeText text
+pub place-length : (p : Place) → length (place_text p) ≤ 34
+unfolding place_text text
 place-length Nowhere = omega arith
 place-length (AtArc state arc) = simp length-append (omega (arith, numbered-length (text " state ") state, numbered-length (text " arc ") arc))
 place-length (AtState state) = omega (arith, numbered-length (text " state ") state)
@@ -59,26 +59,26 @@ place-length (AtFrames frames) = omega (arith, numbered-length (text " frames de
 
 heading-length : (n : ℕ) → (0 < length (heading n)) × (length (heading n) ≤ 59)
 unfolding heading text
-heading-length n = simp length-append (omega (arith, numbered-length (text "refusal ") n, name-length n))
+heading-length n = simp length-append (omega (arith, numbered-length (text "refusal ") n, name_length n))
 
 -- at most 96 bytes
 pub line-length : (x : Refusal) → length (line_of x) ≤ 96
 unfolding line_of
-line-length x = case (either (mayHave x.number x.place)) (λ t. rw t (simp length-append (omega (arith, heading-length x.number, place-length x.place)))) (λ t. rw t (omega arith))
+line-length x = case (either (may_have x.number x.place)) (λ t. rw t (simp length-append (omega (arith, heading-length x.number, place-length x.place)))) (λ t. rw t (omega arith))
 
 -- ---- the numbers of a line
 
 abbrev just : ℕ → Numbers
 just n = record { inside = false; first = 0; second = 0; third = n }
 
-numbered-read : (s : Numbers) (label : List ℕ) (n : ℕ) → plain label ≡ true → 0 < length label → n < 2 ^ 32 → numbersFrom s (numbered label n) ≡ outside (withDigit false (outside s) n)
-unfolding numbered text numbersFrom
-numbered-read s label n p h f = text-after s (label ++ decimal n) (text ";") refl (omega arith) ∙ ap outside (number-after s [] label n p h f)
+numbered_read : (s : Numbers) (label : List ℕ) (n : ℕ) → plain label ≡ true → 0 < length label → n < 2 ^ 32 → numbers_from s (numbered label n) ≡ outside (with_digit false (outside s) n)
+unfolding numbered text numbers_from
+numbered_read s label n p h f = text_after s (label ++ decimal n) (text ";") refl (omega arith) ∙ ap outside (number_after s [] label n p h f)
 
-heading-read : (n : ℕ) → n < 2 ^ 32 → numbersFrom none (heading n) ≡ just n
+heading_read : (n : ℕ) → n < 2 ^ 32 → numbers_from none (heading n) ≡ just n
 unfolding heading text
-heading-read n f =
-    text-after none (numbered (text "refusal ") n) (name_of n) (name-plain n) (name-length n).0 ∙ ap outside (numbered-read none (text "refusal ") n refl (omega arith) f)
+heading_read n f =
+    text_after none (numbered (text "refusal ") n) (name_of n) (name_plain n) (name_length n).0 ∙ ap outside (numbered_read none (text "refusal ") n refl (omega arith) f)
 
 -- a number and its place, as they are found
 abbrev found : ℕ → Place → Numbers
@@ -87,61 +87,61 @@ found n (AtArc state arc) = record { inside = false; first = n; second = state; 
 found n (AtState state) = record { inside = false; first = 0; second = n; third = state }
 found n (AtFrames frames) = record { inside = false; first = 0; second = n; third = frames }
 
-place_read : (n : ℕ) (p : Place) → PlaceFits p → numbersFrom (just n) (placeText p) ≡ found n p
-unfolding placeText text numbersFrom
+place_read : (n : ℕ) (p : Place) → PlaceFits p → numbers_from (just n) (place_text p) ≡ found n p
+unfolding place_text text numbers_from
 place_read n Nowhere f = refl
 place_read n (AtArc state arc) f =
     numbers-append (numbered (text " state ") state) (numbered (text " arc ") arc) (just n)
-    ∙ ap (λ (s : Numbers). numbersFrom s (numbered (text " arc ") arc)) (numbered-read (just n) (text " state ") state refl (omega arith) f.0)
-    ∙ numbered-read (found n (AtState state)) (text " arc ") arc refl (omega arith) f.1
-place_read n (AtState state) f = numbered-read (just n) (text " state ") state refl (omega arith) f
-place_read n (AtFrames frames) f = numbered-read (just n) (text " frames decoded ") frames refl (omega arith) f
+    ∙ ap (λ (s : Numbers). numbers_from s (numbered (text " arc ") arc)) (numbered_read (just n) (text " state ") state refl (omega arith) f.0)
+    ∙ numbered_read (found n (AtState state)) (text " arc ") arc refl (omega arith) f.1
+place_read n (AtState state) f = numbered_read (just n) (text " state ") state refl (omega arith) f
+place_read n (AtFrames frames) f = numbered_read (just n) (text " frames decoded ") frames refl (omega arith) f
 
 within : (low high n : ℕ) → between low high n ≡ true → (low ≤ n) × (n ≤ high)
 within low high n t = let (a, b) = and_both (leb low n) (leb n high) t in (leb-true _ _ a, leb-true _ _ b)
 
-refusal-found : (n : ℕ) (p : Place) → mayHave n p ≡ true → refusalOf (found n p) ≡ record { number = n; place = p }
-unfolding mayHave refusalOf
-refusal-found n Nowhere t = refl
-refusal-found n (AtArc state arc) t = let w = within 2 5 n t in rw (ne_eqb n 0 (λ e. omega arith))
-refusal-found n (AtState state) t = rw (eqb-true n 5 t)
-refusal-found n (AtFrames frames) t =
+refusal_found : (n : ℕ) (p : Place) → may_have n p ≡ true → refusal_of (found n p) ≡ record { number = n; place = p }
+unfolding may_have refusal_of
+refusal_found n Nowhere t = refl
+refusal_found n (AtArc state arc) t = let w = within 2 5 n t in rw (ne_eqb n 0 (λ e. omega arith))
+refusal_found n (AtState state) t = rw (eqb-true n 5 t)
+refusal_found n (AtFrames frames) t =
     let h : 8 ≤ n = case (either (between 8 10 n)) (λ a. (within 8 10 n a).0) (λ a. let w = within 12 14 n (rw a at t) in omega arith) in
     rw (ne_eqb n 0 (λ e. omega arith), ne_eqb n 5 (λ e. omega arith))
 
 -- ---- what the line of a refusal tells
 
-line-is : (x : Refusal) → IsRefusal x → line_of x ≡ heading x.number ++ placeText x.place
+line_is : (x : Refusal) → IsRefusal x → line_of x ≡ heading x.number ++ place_text x.place
 unfolding line_of
-line-is x r = rw r.placed
+line_is x r = rw r.placed
 
 -- the line yields number and place again
-pub read_back : (x : Refusal) → IsRefusal x → refusalOf (numbersIn (line_of x)) ≡ x
+pub read_back : (x : Refusal) → IsRefusal x → refusal_of (numbers_in (line_of x)) ≡ x
 read_back x r =
     let n = x.number in
     let p = x.place in
-    ap refusalOf
-    (ap numbersIn (line-is x r) ∙ numbers-append (heading n) (placeText p) none ∙ ap (λ (s : Numbers). numbersFrom s (placeText p)) (heading-read n r.fits.0)
+    ap refusal_of
+    (ap numbers_in (line_is x r) ∙ numbers-append (heading n) (place_text p) none ∙ ap (λ (s : Numbers). numbers_from s (place_text p)) (heading_read n r.fits.0)
     ∙ place_read n p r.fits.1)
-    ∙ refusal-found n p r.placed
+    ∙ refusal_found n p r.placed
 
 -- two refusals that differ in number or place have different lines
-pub lines-differ : (x y : Refusal) → IsRefusal x → IsRefusal y → line_of x ≡ line_of y → x ≡ y
-lines-differ x y a b e = sym (read_back x a) ∙ ap (λ (bs : List ℕ). refusalOf (numbersIn bs)) e ∙ read_back y b
+pub lines_differ : (x y : Refusal) → IsRefusal x → IsRefusal y → line_of x ≡ line_of y → x ≡ y
+lines_differ x y a b e = sym (read_back x a) ∙ ap (λ (bs : List ℕ). refusal_of (numbers_in bs)) e ∙ read_back y b
 
 -- reading a written line gives the refusal again
-pub read-written : (x : Refusal) (r : Read) → IsRefusal x → ReadLine (line_of x) r → r ≡ Line x
-read-written x (Line y) a h = ap Line (lines-differ y x h.0 a h.1)
-read-written x Nothing a h = absurd (h x a refl)
+pub read_written : (x : Refusal) (r : Read) → IsRefusal x → ReadLine (line_of x) r → r ≡ Line x
+read_written x (Line y) a h = ap Line (lines_differ y x h.0 a h.1)
+read_written x Nothing a h = absurd (h x a refl)
 
 -- bytes that are a refusal's line have its numbers, and no other's
-pub only-refusal : (bs : List ℕ) (found : Numbers) (x y : Refusal) → found ≡ numbersIn bs → y ≡ refusalOf found → IsRefusal x → line_of x ≡ bs → y ≡ x
-only-refusal bs found x y e f r d = f ∙ ap refusalOf (e ∙ ap numbersIn (sym d)) ∙ read_back x r
+pub only_refusal : (bs : List ℕ) (found : Numbers) (x y : Refusal) → found ≡ numbers_in bs → y ≡ refusal_of found → IsRefusal x → line_of x ≡ bs → y ≡ x
+only_refusal bs found x y e f r d = f ∙ ap refusal_of (e ∙ ap numbers_in (sym d)) ∙ read_back x r
 
 -- numbers that are u32 make a refusal that fits
-pub refusal-fits : (s : Numbers) → s.first < 2 ^ 32 → s.second < 2 ^ 32 → s.third < 2 ^ 32 → Fits (refusalOf s)
-unfolding refusalOf
-refusal-fits s a b c =
+pub refusal_fits : (s : Numbers) → s.first < 2 ^ 32 → s.second < 2 ^ 32 → s.third < 2 ^ 32 → Fits (refusal_of s)
+unfolding refusal_of
+refusal_fits s a b c =
     case (either (eqb s.first 0))
     (λ t.
     rw t
@@ -150,23 +150,23 @@ refusal-fits s a b c =
     (λ t. rw t (a, (b, c)))
 
 -- just a refusal's line is not empty
-pub line-not-empty : (x : Refusal) → IsRefusal x → 0 < length (line_of x)
-line-not-empty x r = rw (line-is x r) (simp length-append (omega (arith, heading-length x.number)))
+pub line_not_empty : (x : Refusal) → IsRefusal x → 0 < length (line_of x)
+line_not_empty x r = rw (line_is x r) (simp length-append (omega (arith, heading-length x.number)))
 
-pub line-placed : (x : Refusal) → 0 < length (line_of x) → mayHave x.number x.place ≡ true
+pub line_placed : (x : Refusal) → 0 < length (line_of x) → may_have x.number x.place ≡ true
 unfolding line_of
-line-placed x h = case (either (mayHave x.number x.place)) (λ t. t) (λ t. absurd (let k = rw t at h in omega arith))
+line_placed x h = case (either (may_have x.number x.place)) (λ t. t) (λ t. absurd (let k = rw t at h in omega arith))
 
 -- a line that was written stands in the slice
-pub written-fits : (x : Refusal) (out left : List ℕ) (n : ℕ) → WrittenLine x out (Length n) left → n ≤ length left
-written-fits x out left n (h, e, f) = rw f (simp length-append (omega (arith, e)))
+pub written_fits : (x : Refusal) (out left : List ℕ) (n : ℕ) → WrittenLine x out (Length n) left → n ≤ length left
+written_fits x out left n (h, e, f) = rw f (simp length-append (omega (arith, e)))
 
 -- ---- samples
 
-arc-line : line_of (record { number = 2; place = AtArc 17 0 }) ≡ text "refusal 2; start or arc target is no state; state 17; arc 0;"
-unfolding line_of mayHave alwaysPlaced heading numbered name_of names unnamed placeText text decimal digits
-arc-line = refl
+arc_line : line_of (record { number = 2; place = AtArc 17 0 }) ≡ text "refusal 2; start or arc target is no state; state 17; arc 0;"
+unfolding line_of may_have always_placed heading numbered name_of names unnamed place_text text decimal digits
+arc_line = refl
 
-later-line : line_of (record { number = 4294967295; place = Nowhere }) ≡ text "refusal 4294967295; not known to this version;"
-unfolding line_of mayHave alwaysPlaced heading numbered name_of names unnamed placeText text decimal digits
-later-line = refl
+later_line : line_of (record { number = 4294967295; place = Nowhere }) ≡ text "refusal 4294967295; not known to this version;"
+unfolding line_of may_have always_placed heading numbered name_of names unnamed place_text text decimal digits
+later_line = refl

@@ -56,36 +56,36 @@ unfoldable pub name_of : ℕ → List ℕ
 name_of n = named (get_or names n unnamed)
 
 -- the state and the arc counted within it from 0, the state, or the frames decoded
-unfoldable pub placeText : Place → List ℕ
-placeText Nowhere = []
-placeText (AtArc state arc) = numbered (text " state ") state ++ numbered (text " arc ") arc
-placeText (AtState state) = numbered (text " state ") state
-placeText (AtFrames frames) = numbered (text " frames decoded ") frames
+unfoldable pub place_text : Place → List ℕ
+place_text Nowhere = []
+place_text (AtArc state arc) = numbered (text " state ") state ++ numbered (text " arc ") arc
+place_text (AtState state) = numbered (text " state ") state
+place_text (AtFrames frames) = numbered (text " frames decoded ") frames
 
 abbrev pub between : (low high n : ℕ) → Bool
 between low high n = leb low n && leb n high
 
 -- an arc's 3 and 4, an arc's or a final weight's 5, a frame's 8 and 9
-unfoldable pub alwaysPlaced : ℕ → Bool
-alwaysPlaced n = between 3 5 n || between 8 9 n
+unfoldable pub always_placed : ℕ → Bool
+always_placed n = between 3 5 n || between 8 9 n
 
 -- an arc's 2 to 5, a final weight's 5, a frame's 8 to 10 and 12 to 14; none of the others has a place, nor has a start's 2 and 12 to 14 and a silence call's 10
-unfoldable pub mayHave : ℕ → Place → Bool
-mayHave n Nowhere = not (eqb n 0) && not (alwaysPlaced n)
-mayHave n (AtArc state arc) = between 2 5 n
-mayHave n (AtState state) = eqb n 5
-mayHave n (AtFrames frames) = between 8 10 n || between 12 14 n
+unfoldable pub may_have : ℕ → Place → Bool
+may_have n Nowhere = not (eqb n 0) && not (always_placed n)
+may_have n (AtArc state arc) = between 2 5 n
+may_have n (AtState state) = eqb n 5
+may_have n (AtFrames frames) = between 8 10 n || between 12 14 n
 
 unfoldable pub heading : ℕ → List ℕ
 heading n = numbered (text "refusal ") n ++ name_of n
 
 -- a value that no call gives has the empty line
 unfoldable pub line_of : Refusal → List ℕ
-line_of r = cond (mayHave r.number r.place) (heading r.number ++ placeText r.place) []
+line_of r = cond (may_have r.number r.place) (heading r.number ++ place_text r.place) []
 
 -- the one refusal whose line can have these numbers
-unfoldable pub refusalOf : Numbers → Refusal
-refusalOf s =
+unfoldable pub refusal_of : Numbers → Refusal
+refusal_of s =
     cond (not (eqb s.first 0)) (record { number = s.first; place = AtArc s.second s.third })
     (cond (eqb s.second 0) (record { number = s.third; place = Nowhere })
     (cond (eqb s.second 5) (record { number = 5; place = AtState s.third })

@@ -1,7 +1,7 @@
 // The line of a refusal, for a fitter to read: its number, its name and its place, each part with its label and a semicolon.
 ghost use Rattle.std.specs.Prelude.{◌≡◌, ◌+◌, ◌≤◌, ◌<◌, length};
 ghost use Rattle.decimals.specs.Stored.{Stored};
-ghost use Rattle.refusal_lines.specs.Line.{numbered, name_of, placeText, between, alwaysPlaced, mayHave, line_of, refusalOf};
+ghost use Rattle.refusal_lines.specs.Line.{numbered, name_of, place_text, between, always_placed, may_have, line_of, refusal_of};
 ghost use Rattle.refusal_lines.specs.Answer.{WrittenLine, ReadLine};
 
 use decimals::Numbers;
@@ -87,7 +87,7 @@ pub fn read_line(bytes: &[u8]) -> Read
 
 // The one refusal whose line can have these numbers. Its own number, the first, is not 0.
 fn refusal_of(found: Numbers) -> Refusal
-    ensures { result ≡ refusalOf found }
+    ensures { result ≡ refusal_of found }
 {
     if found.first != 0 {
         return Refusal {
@@ -121,7 +121,7 @@ fn between(low: u32, high: u32, number: u32) -> bool
 
 // Whether a refusal with this number always has a place.
 fn always_placed(number: u32) -> bool
-    ensures { result ≡ alwaysPlaced number }
+    ensures { result ≡ always_placed number }
 {
     between(refusals::BAD_LABEL, refusals::BAD_WEIGHT, number)
         || between(refusals::BAD_FRAME_LENGTH, refusals::BAD_LOGLIKE, number)
@@ -129,7 +129,7 @@ fn always_placed(number: u32) -> bool
 
 // Whether a refusal with this number can have this place.
 fn may_have(number: u32, place: Place) -> bool
-    ensures { result ≡ mayHave number place }
+    ensures { result ≡ may_have number place }
 {
     match place {
         Place::Nowhere => number != 0 && !always_placed(number),
@@ -163,8 +163,8 @@ fn compose(refusal: Refusal, out: &mut [u8]) -> usize
 // The parts of a line, each written from a place on, with the place behind it.
 
 fn put_place(place: Place, out: &mut [u8], at: usize) -> usize
-    requires { at + length (placeText place) ≤ length out.old }
-    ensures { Stored out.old at (placeText place) result out.new }
+    requires { at + length (place_text place) ≤ length out.old }
+    ensures { Stored out.old at (place_text place) result out.new }
 {
     match place {
         Place::Nowhere => at,

@@ -3,8 +3,8 @@ use Rattle.std.specs.Prelude.{◌≡◌, ℕ, suc, ◌+◌, ◌-◌, ◌≤◌, 
 use Rattle.std.proofs.Common.{subst, sym, arith}
 use Rattle.script.specs.declared.Record.{Record}
 use Rattle.script.specs.declared.NextRecord.{NextRecord}
-use Rattle.script.specs.Words.{wordCount}
-use Rattle.script.specs.Records.{recordAt, whole-within}
+use Rattle.script.specs.Words.{word_count}
+use Rattle.script.specs.Records.{record_at, whole_within}
 use Rattle.replay_payloads.specs.Payloads.{Inside}
 use Rattle.replay.specs.declared.Stop.{Stop}
 use Rattle.replay.specs.declared.graphs.Turn.{Turn}
@@ -15,10 +15,10 @@ RecordFrom n at (NextRecord.Whole r) = (r.start ≡ at + 2) × (r.start + r.coun
 RecordFrom n at NextRecord.Short = Unit {0}
 RecordFrom n at NextRecord.End = Unit {0}
 
-pub record-from : (bs : List ℕ) (at : ℕ) (t : NextRecord) → t ≡ recordAt bs at → RecordFrom (wordCount bs) at t
-record-from bs at (NextRecord.Whole r) e = whole-within bs at r e
-record-from bs at NextRecord.Short e = tt
-record-from bs at NextRecord.End e = tt
+pub record_from : (bs : List ℕ) (at : ℕ) (t : NextRecord) → t ≡ record_at bs at → RecordFrom (word_count bs) at t
+record_from bs at (NextRecord.Whole r) e = whole_within bs at r e
+record_from bs at NextRecord.Short e = tt
+record_from bs at NextRecord.End e = tt
 
 -- a run of calls ends at a record of the script, behind a place
 abbrev pub Behind : List ℕ → ℕ → Stop → Type 0
@@ -26,21 +26,21 @@ Behind bs from Stop.End = Unit {0}
 Behind bs from (Stop.NewGraph r) = (from < r.start + r.count) × Inside bs r
 Behind bs from (Stop.NewFit r) = (from < r.start + r.count) × Inside bs r
 
-pub behind-from : (bs : List ℕ) (a b : ℕ) (s : Stop) → b ≤ a → Behind bs a s → Behind bs b s
-behind-from bs a b Stop.End l h = tt
-behind-from bs a b (Stop.NewGraph r) l h = (let z = h.0 in omega arith, h.1)
-behind-from bs a b (Stop.NewFit r) l h = (let z = h.0 in omega arith, h.1)
+pub behind_from : (bs : List ℕ) (a b : ℕ) (s : Stop) → b ≤ a → Behind bs a s → Behind bs b s
+behind_from bs a b Stop.End l h = tt
+behind_from bs a b (Stop.NewGraph r) l h = (let z = h.0 in omega arith, h.1)
+behind_from bs a b (Stop.NewFit r) l h = (let z = h.0 in omega arith, h.1)
 
 -- how many words are left there, and 1 more
 abbrev pub ahead : List ℕ → Stop → ℕ
 ahead bs Stop.End = 0
-ahead bs (Stop.NewGraph r) = suc (wordCount bs - (r.start + r.count))
-ahead bs (Stop.NewFit r) = suc (wordCount bs - (r.start + r.count))
+ahead bs (Stop.NewGraph r) = suc (word_count bs - (r.start + r.count))
+ahead bs (Stop.NewFit r) = suc (word_count bs - (r.start + r.count))
 
-pub fewer-ahead : (bs : List ℕ) (r : Record) (s : Stop) → Inside bs r → Behind bs (r.start + r.count) s → ahead bs s < suc (wordCount bs - (r.start + r.count))
-fewer-ahead bs r Stop.End l h = omega arith
-fewer-ahead bs r (Stop.NewGraph x) l h = let a = h.0 in let b = h.1 in omega arith
-fewer-ahead bs r (Stop.NewFit x) l h = let a = h.0 in let b = h.1 in omega arith
+pub fewer_ahead : (bs : List ℕ) (r : Record) (s : Stop) → Inside bs r → Behind bs (r.start + r.count) s → ahead bs s < suc (word_count bs - (r.start + r.count))
+fewer_ahead bs r Stop.End l h = omega arith
+fewer_ahead bs r (Stop.NewGraph x) l h = let a = h.0 in let b = h.1 in omega arith
+fewer_ahead bs r (Stop.NewFit x) l h = let a = h.0 in let b = h.1 in omega arith
 
 -- a run ends at this record, if not at the end
 abbrev pub StopsAt : Record → Stop → Type 0
@@ -57,7 +57,7 @@ TurnAt r Turn.Other = Unit {0}
 abbrev pub TurnsTo : Stop → Turn → Type 0
 TurnsTo s t = (r : Record) → StopsAt r s → TurnAt r t
 
-pub stops-behind : (bs : List ℕ) (from : ℕ) (r : Record) (s : Stop) → StopsAt r s → from < r.start + r.count → Inside bs r → Behind bs from s
-stops-behind bs from r Stop.End e l i = tt
-stops-behind bs from r (Stop.NewGraph x) e l i = subst (λ (z : Record). (from < z.start + z.count) × Inside bs z) (sym e) (l, i)
-stops-behind bs from r (Stop.NewFit x) e l i = subst (λ (z : Record). (from < z.start + z.count) × Inside bs z) (sym e) (l, i)
+pub stops_behind : (bs : List ℕ) (from : ℕ) (r : Record) (s : Stop) → StopsAt r s → from < r.start + r.count → Inside bs r → Behind bs from s
+stops_behind bs from r Stop.End e l i = tt
+stops_behind bs from r (Stop.NewGraph x) e l i = subst (λ (z : Record). (from < z.start + z.count) × Inside bs z) (sym e) (l, i)
+stops_behind bs from r (Stop.NewFit x) e l i = subst (λ (z : Record). (from < z.start + z.count) × Inside bs z) (sym e) (l, i)

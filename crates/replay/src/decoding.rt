@@ -1,7 +1,7 @@
 // The calls on a decoder.
 ghost use Rattle.std.specs.Prelude.{length};
 ghost use Rattle.stores.specs.Rep.{lent};
-ghost use Rattle.nonemitting.specs.Expand.{graphTables};
+ghost use Rattle.nonemitting.specs.Expand.{graph_tables};
 ghost use Rattle.replay_places.specs.Held.{Held};
 ghost use Rattle.replay_payloads.specs.Payloads.{Inside};
 ghost use Rattle.replay_calls.specs.Held.{AnsweredLeft};
@@ -40,7 +40,7 @@ pub fn on_decoder(
     pdfs: u32,
     decoder: Decoder,
 ) -> Stop
-    requires { Held (graphTables offsets.now ilabels.now olabels.now weights.now nextstates.now tid2pdf.now tid2phone.now) (lent tokens.old sums.old records.old labels.old gaps.old) finals.now eps.now (length queue.old) (length scratch.old) decoder }
+    requires { Held (graph_tables offsets.now ilabels.now olabels.now weights.now nextstates.now tid2pdf.now tid2phone.now) (lent tokens.old sums.old records.old labels.old gaps.old) finals.now eps.now (length queue.old) (length scratch.old) decoder }
     ensures { Behind calls.now from result }
 {
     let mut d = decoder;
@@ -99,8 +99,8 @@ fn answer(
     d: Decoder,
 ) -> Answered
     requires inside { Inside calls.now r }
-    requires held { Held (graphTables offsets.now ilabels.now olabels.now weights.now nextstates.now tid2pdf.now tid2phone.now) (lent tokens.old sums.old records.old labels.old gaps.old) finals.now eps.now (length queue.old) (length scratch.old) d }
-    ensures { AnsweredLeft (graphTables offsets.now ilabels.now olabels.now weights.now nextstates.now tid2pdf.now tid2phone.now) (lent tokens.new sums.new records.new labels.new gaps.new) finals.now eps.now (length queue.old) (length scratch.old) result }
+    requires held { Held (graph_tables offsets.now ilabels.now olabels.now weights.now nextstates.now tid2pdf.now tid2phone.now) (lent tokens.old sums.old records.old labels.old gaps.old) finals.now eps.now (length queue.old) (length scratch.old) d }
+    ensures { AnsweredLeft (graph_tables offsets.now ilabels.now olabels.now weights.now nextstates.now tid2pdf.now tid2phone.now) (lent tokens.new sums.new records.new labels.new gaps.new) finals.now eps.now (length queue.old) (length scratch.old) result }
 {
     if r.kind == START {
         return replay_calls::start_again(

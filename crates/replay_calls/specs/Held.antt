@@ -2,18 +2,18 @@
 use Rattle.std.specs.Prelude.{◌≡◌, ℕ, ◌+◌, ◌≤◌, Bool, true, List, leb, Float}
 use Rattle.std.proofs.Common.{subst, sym, leb-true}
 use Rattle.lists.specs.Tests.{and_both}
-use Rattle.script.specs.Words.{wordCount, fitting}
-use Rattle.model.specs.Calls.{Call, keepCall}
+use Rattle.script.specs.Words.{word_count, fitting}
+use Rattle.model.specs.Calls.{Call, keep_call}
 use Rattle.stores.specs.Rep.{Lent}
 use Rattle.arcs.specs.State.{Tables}
 use Rattle.checks.specs.Margin.{asked}
 use Rattle.decoder.specs.declared.Decoder.{Decoder}
 use Rattle.decoder.specs.declared.Called.{Called}
 use Rattle.decoder.specs.declared.Fitted.{Fitted}
-use Rattle.decoder.specs.Contracts.{Promised, keepOf}
+use Rattle.decoder.specs.Contracts.{Promised, keep_of}
 use Rattle.decoder.specs.Behaves.{value_of}
-use Rattle.decoder.specs.Keep.{keep-is}
-use Rattle.replay_places.specs.Held.{Held, HeldFitted, call-held}
+use Rattle.decoder.specs.Keep.{keep_is}
+use Rattle.replay_places.specs.Held.{Held, HeldFitted, call_held}
 use Rattle.replay_calls.specs.declared.Answered.{Answered}
 
 -- after an answer the decoder and its stores are as a call leaves them
@@ -44,36 +44,36 @@ abbrev pub GoesOnAll : Decoder → Answered → Type 0
 GoesOnAll d a = (T : Tables) (m : Lent) (eps : List ℕ) (places : ℕ) → GoesOn T m m eps places d a
 
 module _ (T : Tables) (m : Lent) (finals : List Float) (eps : List ℕ) (places scratch : ℕ) where
-  pub next-left : (d : Decoder) (a : Answered) → NextIs d a → Held T m finals eps places scratch d → AnsweredLeft T m finals eps places scratch a
-  next-left d (Answered.Next x) e H = subst (Held T m finals eps places scratch) (sym e) H
-  next-left d Answered.Over e H = tt
+  pub next_left : (d : Decoder) (a : Answered) → NextIs d a → Held T m finals eps places scratch d → AnsweredLeft T m finals eps places scratch a
+  next_left d (Answered.Next x) e H = subst (Held T m finals eps places scratch) (sym e) H
+  next_left d Answered.Over e H = tt
 
   goes_left : (r : Called) (a : Answered) → Goes r a → Held T m finals eps places scratch (value_of r) → AnsweredLeft T m finals eps places scratch a
-  goes_left (Called.Done d) a e H = next-left d a e H
-  goes_left (Called.Refused d f) a e H = next-left d a e H
+  goes_left (Called.Done d) a e H = next_left d a e H
+  goes_left (Called.Refused d f) a e H = next_left d a e H
 
-  fitted-left : (f : Fitted) (a : Answered) → GoesFitted f a → HeldFitted T m finals eps places scratch f → AnsweredLeft T m finals eps places scratch a
-  fitted-left (Fitted.Unfit x) a e H = subst (AnsweredLeft T m finals eps places scratch) (sym e) tt
-  fitted-left (Fitted.Done d) a e H = next-left d a e H
-  fitted-left (Fitted.Refused d x) a e H = next-left d a e H
+  fitted_left : (f : Fitted) (a : Answered) → GoesFitted f a → HeldFitted T m finals eps places scratch f → AnsweredLeft T m finals eps places scratch a
+  fitted_left (Fitted.Unfit x) a e H = subst (AnsweredLeft T m finals eps places scratch) (sym e) tt
+  fitted_left (Fitted.Done d) a e H = next_left d a e H
+  fitted_left (Fitted.Refused d x) a e H = next_left d a e H
 
-pub called-left : (T : Tables) (m m' : Lent) (eps : List ℕ) (places : ℕ) (k : Call) (d : Decoder) (r : Called) (a : Answered) → Promised T m m' eps places k d r → Goes r a → GoesOn T m m' eps places d a
-called-left T m m' eps places k d r a P e finals scratch H = goes_left T m' finals eps places scratch r a e (call-held H k r P)
+pub called_left : (T : Tables) (m m' : Lent) (eps : List ℕ) (places : ℕ) (k : Call) (d : Decoder) (r : Called) (a : Answered) → Promised T m m' eps places k d r → Goes r a → GoesOn T m m' eps places d a
+called_left T m m' eps places k d r a P e finals scratch H = goes_left T m' finals eps places scratch r a e (call_held H k r P)
 
-pub kept-left : (d : Decoder) (keeps : Bool) (margin : Float) (r : Called) (a : Answered) → r ≡ keepOf d keeps margin → Goes r a → GoesOnAll d a
-kept-left d keeps margin r a q e T m eps places =
-    called-left T m m eps places (keepCall (asked keeps margin)) d (keepOf d keeps margin) a (λ g c l fs st R. keep-is R keeps margin) (subst (λ (x : Called). Goes x a) q e)
+pub kept_left : (d : Decoder) (keeps : Bool) (margin : Float) (r : Called) (a : Answered) → r ≡ keep_of d keeps margin → Goes r a → GoesOnAll d a
+kept_left d keeps margin r a q e T m eps places =
+    called_left T m m eps places (keep_call (asked keeps margin)) d (keep_of d keeps margin) a (λ g c l fs st R. keep_is R keeps margin) (subst (λ (x : Called). Goes x a) q e)
 
 -- an answer that goes on, with a queue and a scratch as long
-pub answered-next : (T : Tables) (m : Lent) (finals : List Float) (eps : List ℕ) (n n' k k' : ℕ) (a : Answered) (d : Decoder) → AnsweredLeft T m finals eps n k a → a ≡ Answered.Next d → n' ≡ n → k' ≡ k → Held T m finals eps n' k' d
-answered-next T m finals eps n n' k k' a d H e p q =
+pub answered_next : (T : Tables) (m : Lent) (finals : List Float) (eps : List ℕ) (n n' k k' : ℕ) (a : Answered) (d : Decoder) → AnsweredLeft T m finals eps n k a → a ≡ Answered.Next d → n' ≡ n → k' ≡ k → Held T m finals eps n' k' d
+answered_next T m finals eps n n' k k' a d H e p q =
     subst (λ (x : ℕ). Held T m finals eps n' x d) (sym q) (subst (λ (x : ℕ). Held T m finals eps x k d) (sym p) (subst (AnsweredLeft T m finals eps n k) e H))
 
 -- a decoder that was fitted goes on with a queue as long
-pub fitted-next : (T : Tables) (m : Lent) (finals : List Float) (eps : List ℕ) (n n' k : ℕ) (f : Fitted) (a : Answered) (d : Decoder) → HeldFitted T m finals eps n k f → GoesFitted f a → a ≡ Answered.Next d → n' ≡ n → Held T m finals eps n' k d
-fitted-next T m finals eps n n' k f a d H o e p =
-    subst (λ (x : ℕ). Held T m finals eps x k d) (sym p) (subst (AnsweredLeft T m finals eps n k) e (fitted-left T m finals eps n k f a o H))
+pub fitted_next : (T : Tables) (m : Lent) (finals : List Float) (eps : List ℕ) (n n' k : ℕ) (f : Fitted) (a : Answered) (d : Decoder) → HeldFitted T m finals eps n k f → GoesFitted f a → a ≡ Answered.Next d → n' ≡ n → Held T m finals eps n' k d
+fitted_next T m finals eps n n' k f a d H o e p =
+    subst (λ (x : ℕ). Held T m finals eps x k d) (sym p) (subst (AnsweredLeft T m finals eps n k) e (fitted_left T m finals eps n k f a o H))
 
 -- words that fit are no more than the places
-pub fits-places : (bs : List ℕ) (at n places : ℕ) → fitting bs at n places ≡ true → n ≤ places
-fits-places bs at n places t = leb-true _ _ (and_both (leb n places) (leb (at + n) (wordCount bs)) t).0
+pub fits_places : (bs : List ℕ) (at n places : ℕ) → fitting bs at n places ≡ true → n ≤ places
+fits_places bs at n places t = leb-true _ _ (and_both (leb n places) (leb (at + n) (word_count bs)) t).0

@@ -1,7 +1,7 @@
 // The decoder's calls that change it, each with what it works in.
 ghost use Rattle.std.specs.Prelude.{◌≡◌, length};
 ghost use Rattle.stores.specs.Rep.{lent};
-ghost use Rattle.nonemitting.specs.Expand.{graphTables};
+ghost use Rattle.nonemitting.specs.Expand.{graph_tables};
 ghost use Rattle.decoder.specs.Represents.{Left};
 ghost use Rattle.decoder.specs.Contracts.{FrameLeft};
 ghost use Rattle.replay_places.specs.Held.{HeldFitted};
@@ -37,7 +37,7 @@ pub fn fit(
     pdfs: u32,
     config: Config,
 ) -> Fitted
-    ensures { HeldFitted (graphTables offsets.now ilabels.now olabels.now weights.now nextstates.now tid2pdf.now tid2phone.now) (lent tokens.new sums.new records.new labels.new gaps.new) finals.now eps.new (length queue.old) (length scratch.now) result }
+    ensures { HeldFitted (graph_tables offsets.now ilabels.now olabels.now weights.now nextstates.now tid2pdf.now tid2phone.now) (lent tokens.new sums.new records.new labels.new gaps.new) finals.now eps.new (length queue.old) (length scratch.now) result }
 {
     let keys = replay_places::key_places();
     let history_keys = replay_places::history_key_places();
@@ -98,8 +98,8 @@ pub fn start_again(
     tid2phone: &[i32],
     d: Decoder,
 ) -> Answered
-    requires { Left (graphTables offsets.now ilabels.now olabels.now weights.now nextstates.now tid2pdf.now tid2phone.now) (lent tokens.old sums.old records.old labels.old gaps.old) eps.now (length queue.old) d }
-    ensures { GoesOn (graphTables offsets.now ilabels.now olabels.now weights.now nextstates.now tid2pdf.now tid2phone.now) (lent tokens.old sums.old records.old labels.old gaps.old) (lent tokens.new sums.new records.new labels.new gaps.new) eps.now (length queue.old) d result }
+    requires { Left (graph_tables offsets.now ilabels.now olabels.now weights.now nextstates.now tid2pdf.now tid2phone.now) (lent tokens.old sums.old records.old labels.old gaps.old) eps.now (length queue.old) d }
+    ensures { GoesOn (graph_tables offsets.now ilabels.now olabels.now weights.now nextstates.now tid2pdf.now tid2phone.now) (lent tokens.old sums.old records.old labels.old gaps.old) (lent tokens.new sums.new records.new labels.new gaps.new) eps.now (length queue.old) d result }
 {
     if r.count != 0 {
         replay_answers::say_fault(START);
@@ -134,8 +134,8 @@ pub fn frame(
     tid2phone: &[i32],
     d: Decoder,
 ) -> Answered
-    requires { FrameLeft (graphTables offsets.now ilabels.now olabels.now weights.now nextstates.now tid2pdf.now tid2phone.now) (lent tokens.old sums.old records.old labels.old gaps.old) eps.now (length queue.old) (length scratch.old) d }
-    ensures { GoesOn (graphTables offsets.now ilabels.now olabels.now weights.now nextstates.now tid2pdf.now tid2phone.now) (lent tokens.old sums.old records.old labels.old gaps.old) (lent tokens.new sums.new records.new labels.new gaps.new) eps.now (length queue.old) d result }
+    requires { FrameLeft (graph_tables offsets.now ilabels.now olabels.now weights.now nextstates.now tid2pdf.now tid2phone.now) (lent tokens.old sums.old records.old labels.old gaps.old) eps.now (length queue.old) (length scratch.old) d }
+    ensures { GoesOn (graph_tables offsets.now ilabels.now olabels.now weights.now nextstates.now tid2pdf.now tid2phone.now) (lent tokens.old sums.old records.old labels.old gaps.old) (lent tokens.new sums.new records.new labels.new gaps.new) eps.now (length queue.old) d result }
 {
     if !script::can_fill(bytes, r.start, r.count, 4096) {
         replay_answers::say_fault(FRAME);

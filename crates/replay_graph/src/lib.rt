@@ -6,10 +6,10 @@ ghost use Rattle.std.specs.Int.{w32};
 ghost use Rattle.std.proofs.Common.{to_z};
 ghost use Rattle.std.specs.Float.{binary32};
 ghost use Rattle.std.specs.Float.Ieee.{of_bits};
-ghost use Rattle.fst.specs.Answer.{buildOf};
+ghost use Rattle.fst.specs.Answer.{build_of};
 ghost use Rattle.replay_payloads.specs.Payloads.{Inside};
 ghost use Rattle.replay_graph.specs.Slices.{Slice, CountIs};
-ghost use Rattle.replay_graph.specs.Tries.{graphIn, triedBy, Tries};
+ghost use Rattle.replay_graph.specs.Tries.{graph_in, tried_by, Tries};
 
 use fst::Built;
 use replay_answers::GRAPH;
@@ -109,7 +109,7 @@ pub fn try_graph(bytes: &[u8], r: Record) -> Tried
 }
 
 fn build(bytes: &[u8], g: Shape) -> Tried
-    ensures { result ≡ triedBy (buildOf (graphIn bytes.now g)) }
+    ensures { result ≡ tried_by (build_of (graph_in bytes.now g)) }
 {
     let finals = finals_of(bytes, g.finals);
     let offsets = offsets_of(bytes, g.offsets);
@@ -134,7 +134,7 @@ fn build(bytes: &[u8], g: Shape) -> Tried
 }
 
 fn say_built(built: Built) -> Tried
-    ensures { result ≡ triedBy built }
+    ensures { result ≡ tried_by built }
 {
     match built {
         Built::Accepted(_) => {

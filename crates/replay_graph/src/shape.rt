@@ -1,7 +1,7 @@
 // Where a graph's payload has its numbers and slices: the number of pdfs, the start, and eight slices, each its length and then its words.
 ghost use Rattle.std.specs.Prelude.{◌≡◌, ◌+◌, ◌^◌, ◌≤◌, ◌<◌, max, eqb};
-ghost use Rattle.script.specs.Words.{wordCount};
-ghost use Rattle.replay_graph.specs.Shapes.{part_at, ShapeIs, fitsHere};
+ghost use Rattle.script.specs.Words.{word_count};
+ghost use Rattle.replay_graph.specs.Shapes.{part_at, ShapeIs, fits_here};
 
 // Where a slice's words stand in the script, and how many there are.
 #[derive(Drop)]
@@ -26,7 +26,7 @@ pub struct Shape {
 
 // The slice whose length stands at a place, or one behind the payload's end where it does not end within it.
 fn part_at(bytes: &[u8], at: usize, end: usize) -> Part
-    requires { end ≤ wordCount bytes.now }
+    requires { end ≤ word_count bytes.now }
     ensures { (result ≡ part_at bytes.now at end) × (result.at + result.n ≤ end + 1) }
 {
     if end <= at {
@@ -47,7 +47,7 @@ fn behind(p: Part) -> usize
 }
 
 pub fn shape_of(bytes: &[u8], start: usize, end: usize) -> Shape
-    requires { (start ≤ end) × (end ≤ wordCount bytes.now) }
+    requires { (start ≤ end) × (end ≤ word_count bytes.now) }
     ensures { ShapeIs bytes.now start end result }
 {
     let finals = part_at(bytes, start + 2, end);
@@ -83,7 +83,7 @@ pub fn fills(g: Shape, end: usize) -> bool
 
 // Whether the program has places for a graph.
 pub fn fits(g: Shape) -> bool
-    ensures { result ≡ fitsHere g }
+    ensures { result ≡ fits_here g }
 {
     if 4096 < g.finals.n {
         return false;

@@ -1,8 +1,8 @@
 // What the payloads of a script's calls ask for, and how much of that the program `replay` lends. A number that is left off at a record's end asks for no limit.
 ghost use Rattle.std.specs.Prelude.{◌≡◌, ◌≤◌, ◌<◌, ◌^◌, min};
-ghost use Rattle.script.specs.Words.{wordCount};
-ghost use Rattle.replay_payloads.specs.Payloads.{Inside, askedFor, shapedAs, configAt};
-ghost use Rattle.replay_payloads.specs.Lent.{LoanIs, wasCut, LengthsAre, listFits, allEntries, allOutput};
+ghost use Rattle.script.specs.Words.{word_count};
+ghost use Rattle.replay_payloads.specs.Payloads.{Inside, asked_for, shaped_as, config_at};
+ghost use Rattle.replay_payloads.specs.Lent.{LoanIs, was_cut, LengthsAre, list_fits, all_entries, all_output};
 
 use cutoff::Config;
 use script::Record;
@@ -30,7 +30,7 @@ pub fn least(a: usize, b: usize) -> usize
 // The i-th number of a payload, or another where it is left off.
 pub fn asked(bytes: &[u8], r: Record, i: usize, otherwise: usize) -> usize
     requires { Inside bytes.now r }
-    ensures { result ≡ askedFor bytes.now r i otherwise }
+    ensures { result ≡ asked_for bytes.now r i otherwise }
 {
     if i < r.count {
         return script::word_at(bytes, r.start + i) as usize;
@@ -40,7 +40,7 @@ pub fn asked(bytes: &[u8], r: Record, i: usize, otherwise: usize) -> usize
 
 // Whether a read's payload has so many words, of which the first says whether finals are used.
 pub fn shaped(bytes: &[u8], r: Record, fewest: usize, most: usize) -> bool
-    ensures { result ≡ shapedAs bytes.now r fewest most }
+    ensures { result ≡ shaped_as bytes.now r fewest most }
 {
     if r.count < fewest {
         return false;
@@ -55,8 +55,8 @@ pub fn shaped(bytes: &[u8], r: Record, fewest: usize, most: usize) -> bool
 
 // The settings that stand from a place on.
 pub fn config_of(bytes: &[u8], start: usize) -> Config
-    requires { start ≤ wordCount bytes.now }
-    ensures { result ≡ configAt bytes.now start }
+    requires { start ≤ word_count bytes.now }
+    ensures { result ≡ config_at bytes.now start }
 {
     Config {
         beam: script::float_of(script::word_at(bytes, start)),
@@ -99,7 +99,7 @@ pub fn loan_of(bytes: &[u8], r: Record) -> Loan
 
 // Whether a store that is shorter than asked for was full.
 pub fn was_cut(loan: Loan, number: u32) -> bool
-    ensures { result ≡ wasCut loan number }
+    ensures { result ≡ was_cut loan number }
 {
     if number == NO_RECORD {
         return !loan.all_records;
@@ -115,7 +115,7 @@ pub fn was_cut(loan: Loan, number: u32) -> bool
 // Whether the output is as long as asked for, or as long as so many paths of one word and one segment for each record can be.
 pub fn list_fits(bytes: &[u8], r: Record, used: usize) -> bool
     requires { Inside bytes.now r × (used < 2 ^ 32) }
-    ensures { result ≡ listFits bytes.now r used }
+    ensures { result ≡ list_fits bytes.now r used }
 {
     let max = least(script::word_at(bytes, r.start + 1) as usize, 64);
     if max * used <= 16384 {
@@ -159,7 +159,7 @@ pub fn lengths_of(bytes: &[u8], r: Record, loan: Loan) -> Lengths
 
 // Whether the stores are as long as asked for.
 pub fn all_entries(loan: Loan) -> bool
-    ensures { result ≡ allEntries loan }
+    ensures { result ≡ all_entries loan }
 {
     if 65536 < loan.below {
         return false;
@@ -170,7 +170,7 @@ pub fn all_entries(loan: Loan) -> bool
 // Whether the output is.
 pub fn all_output(bytes: &[u8], r: Record) -> bool
     requires { Inside bytes.now r }
-    ensures { result ≡ allOutput bytes.now r }
+    ensures { result ≡ all_output bytes.now r }
 {
     if 4096 < asked(bytes, r, 3, NO_LIMIT) {
         return false;

@@ -15,15 +15,15 @@ use Rattle.decoder.specs.declared.Fitted.{Fitted}
 use Rattle.decoder.specs.declared.Fitted.TheVariants.{Unfit, Done, Refused}
 use Rattle.decoder.specs.Contracts.{Promised, FitIs, FrameLeft}
 use Rattle.decoder.specs.Behaves.{value_of}
-use Rattle.decoder.specs.Held.{Held as Holds, HeldFitted as HoldsFitted, held-asked, call-held as call-holds, fit-held as fit-holds}
+use Rattle.decoder.specs.Held.{Held as Holds, HeldFitted as HoldsFitted, held_asked, call_held as call-holds, fit_held as fit-holds}
 
 -- of the slices that the fitting has judged: a frame's scratch, and one for each state and one for each record of the program's own
 pub record Held (T : Tables) (m : Lent) (finals : List Float) (eps : List ℕ) (places scratch : ℕ) (d : Decoder) : Type 0 where
   pub lengths : Lengths
   pub holds : Holds T m finals eps places lengths d
   pub as_long : lengths.scratch ≡ scratch
-  pub own-are : lengths.own ≡ 4096
-  pub routes-are : lengths.route ≡ 8192
+  pub own_are : lengths.own ≡ 4096
+  pub routes_are : lengths.route ≡ 8192
 
 -- there is a decoder where 1 to 6 do not refuse the fitting
 abbrev pub HeldFitted : (T : Tables) (m : Lent) (finals : List Float) (eps : List ℕ) (places scratch : ℕ) → Fitted → Type 0
@@ -33,24 +33,24 @@ HeldFitted T m finals eps places scratch (Refused d f) = Held T m finals eps pla
 
 module _ {T : Tables} {m : Lent} {finals : List Float} {eps : List ℕ} {places scratch : ℕ} {d : Decoder} (H : Held T m finals eps places scratch d) where
   -- it meets what a frame asks, and its decoder is no larger than the program's slices
-  pub frame-asked : FrameLeft T m eps places scratch d
-  frame-asked = subst (λ (n : ℕ). FrameLeft T m eps places n d) H.as_long (held-asked H.holds).frame
+  pub frame_asked : FrameLeft T m eps places scratch d
+  frame_asked = subst (λ (n : ℕ). FrameLeft T m eps places n d) H.as_long (held_asked H.holds).frame
 
-  pub few-states : d.graph.states ≤ 4096
-  few-states = let z = H.holds.room.per-state H.lengths.own (there (there (there (there (there (there (here refl))))))) in let e = H.own-are in omega arith
+  pub few_states : d.graph.states ≤ 4096
+  few_states = let z = H.holds.room.per_state H.lengths.own (there (there (there (there (there (there (here refl))))))) in let e = H.own_are in omega arith
 
-  pub few-records : d.cap ≤ 8192
-  few-records = let z = H.holds.room.per-record H.lengths.route (there (here refl)) in let e = H.routes-are in let k = H.holds.cap-is in omega arith
+  pub few_records : d.cap ≤ 8192
+  few_records = let z = H.holds.room.per_record H.lengths.route (there (here refl)) in let e = H.routes_are in let k = H.holds.cap_is in omega arith
 
   -- a call hands it on
-  pub call-held : {m' : Lent} (k : Call) (r : Called) → Promised T m m' eps places k d r → Held T m' finals eps places scratch (value_of r)
-  call-held k r P = record { lengths = H.lengths; holds = call-holds k refl P H.holds; as_long = H.as_long; own-are = H.own-are; routes-are = H.routes-are }
+  pub call_held : {m' : Lent} (k : Call) (r : Called) → Promised T m m' eps places k d r → Held T m' finals eps places scratch (value_of r)
+  call_held k r P = record { lengths = H.lengths; holds = call-holds k refl P H.holds; as_long = H.as_long; own_are = H.own_are; routes_are = H.routes_are }
 
 -- and a fitting gives it
-pub fit-held : {g : Graph} {T : Tables} {m m' : Lent} {l : Lengths} {qs qs' eps eps' : List ℕ} {c : Config} (f : Fitted) → l.own ≡ 4096 → l.route ≡ 8192 → FitIs g T m m' l qs qs' eps eps' c f → HeldFitted T m' g.finals eps' (length qs) l.scratch f
-fit-held {g} {T} {m' = m'} {l} {qs} {eps' = eps'} f o r F = go f (fit-holds F)
+pub fit_held : {g : Graph} {T : Tables} {m m' : Lent} {l : Lengths} {qs qs' eps eps' : List ℕ} {c : Config} (f : Fitted) → l.own ≡ 4096 → l.route ≡ 8192 → FitIs g T m m' l qs qs' eps eps' c f → HeldFitted T m' g.finals eps' (length qs) l.scratch f
+fit_held {g} {T} {m' = m'} {l} {qs} {eps' = eps'} f o r F = go f (fit-holds F)
   where
     go : (f : Fitted) → HoldsFitted T m' g.finals eps' (length qs) l f → HeldFitted T m' g.finals eps' (length qs) l.scratch f
     go (Unfit x) H = tt
-    go (Done d) H = record { lengths = l; holds = H; as_long = refl; own-are = o; routes-are = r }
-    go (Refused d x) H = record { lengths = l; holds = H; as_long = refl; own-are = o; routes-are = r }
+    go (Done d) H = record { lengths = l; holds = H; as_long = refl; own_are = o; routes_are = r }
+    go (Refused d x) H = record { lengths = l; holds = H; as_long = refl; own_are = o; routes_are = r }

@@ -1,7 +1,7 @@
 // Alternatives.
 ghost use Rattle.std.specs.Prelude.{◌≡◌, true};
 ghost use Rattle.replay_payloads.specs.Payloads.{Inside};
-ghost use Rattle.replay_payloads.specs.Lent.{listFits};
+ghost use Rattle.replay_payloads.specs.Lent.{list_fits};
 ghost use Rattle.replay_reads.specs.Reads.{PathsLeft};
 
 use crate::calls::list_paths;
@@ -25,7 +25,7 @@ pub fn alternatives(
 ) -> bool
     requires inside { Inside bytes.now r }
     requires paths_left { PathsLeft tokens.now sums.now records.now labels.now finals.now d }
-    ensures { listFits bytes.now r d.used ≡ true → result ≡ true }
+    ensures { list_fits bytes.now r d.used ≡ true → result ≡ true }
 {
     if !replay_payloads::shaped(bytes, r, 2, 6) {
         replay_answers::say_fault(ALTERNATIVES);
@@ -64,7 +64,7 @@ pub fn alternatives(
 // A refusal stands where the output is as long as the script asks for.
 fn say_unlisted(bytes: &[u8], r: Record, number: u32, used: u32) -> bool
     requires { Inside bytes.now r }
-    ensures { listFits bytes.now r used ≡ true → result ≡ true }
+    ensures { list_fits bytes.now r used ≡ true → result ≡ true }
 {
     if number == TOO_SHORT {
         if !replay_payloads::list_fits(bytes, r, used as usize) {

@@ -2,7 +2,7 @@
 ghost use Rattle.std.specs.Prelude.{◌≡◌, true};
 ghost use Rattle.replay_payloads.specs.Payloads.{Inside};
 ghost use Rattle.replay_reads.specs.Reads.{ListLeft};
-ghost use Rattle.replay_payloads.specs.Lent.{allEntries, allOutput};
+ghost use Rattle.replay_payloads.specs.Lent.{all_entries, all_output};
 
 use crate::calls::list_readings;
 use decoder::Decoder;
@@ -26,7 +26,7 @@ pub fn readings(
 ) -> bool
     requires inside { Inside bytes.now r }
     requires list_left { ListLeft tokens.now sums.now records.now labels.now gaps.now finals.now d }
-    ensures { allEntries loan ≡ true → allOutput bytes.now r ≡ true → result ≡ true }
+    ensures { all_entries loan ≡ true → all_output bytes.now r ≡ true → result ≡ true }
 {
     if !replay_payloads::shaped(bytes, r, 3, 7) {
         replay_answers::say_fault(READINGS);
@@ -68,7 +68,7 @@ pub fn readings(
 // A refusal stands where what it is for is as long as the script asks for.
 fn say_unread(bytes: &[u8], r: Record, loan: Loan, number: u32) -> bool
     requires { Inside bytes.now r }
-    ensures { allEntries loan ≡ true → allOutput bytes.now r ≡ true → result ≡ true }
+    ensures { all_entries loan ≡ true → all_output bytes.now r ≡ true → result ≡ true }
 {
     if number == NO_ENTRY {
         if !replay_payloads::all_entries(loan) {

@@ -1,6 +1,6 @@
 // Reads a script of silence calls from standard input and writes their answers, both in the binary form of oracle/FORMAT.md.
 ghost use Rattle.std.specs.Prelude.{◌≡◌, ◌+◌, ◌*◌, ◌≤◌, length};
-ghost use Rattle.script.specs.Words.{wordCount};
+ghost use Rattle.script.specs.Words.{word_count};
 ghost use Rattle.replay_silence.specs.Shape.{CountWithin, FillUp};
 
 use libc::{STDIN_FILENO, STDOUT_FILENO};
@@ -86,7 +86,7 @@ fn is_over(made: Made) -> bool {
 }
 
 fn answer(bytes: &[u8], r: Record, made: Made, status: &mut [u32], weights: &mut [f32]) -> Made
-    requires { (r.start + r.count ≤ wordCount bytes.now) × (65537 ≤ length status.old) × (65537 ≤ length weights.old) }
+    requires { (r.start + r.count ≤ word_count bytes.now) × (65537 ≤ length status.old) × (65537 ≤ length weights.old) }
 {
     let kind = r.kind;
     if kind == NEW {
@@ -106,7 +106,7 @@ fn answer(bytes: &[u8], r: Record, made: Made, status: &mut [u32], weights: &mut
 
 // A call on the silence state.
 fn answer_held(bytes: &[u8], r: Record, held: Held, status: &mut [u32], weights: &mut [f32]) -> Made
-    requires { (r.start + r.count ≤ wordCount bytes.now) × (65537 ≤ length status.old) × (65537 ≤ length weights.old) }
+    requires { (r.start + r.count ≤ word_count bytes.now) × (65537 ≤ length status.old) × (65537 ≤ length weights.old) }
 {
     let kind = r.kind;
     if kind == TRACEBACK {
@@ -126,7 +126,7 @@ fn answer_held(bytes: &[u8], r: Record, held: Held, status: &mut [u32], weights:
 
 // The payload is a weight, the subsampling, the places, and the silence phones with their number before them.
 fn new(bytes: &[u8], start: usize, count: usize, made: Made) -> Made
-    requires { start + count ≤ wordCount bytes.now }
+    requires { start + count ≤ word_count bytes.now }
 {
     if count < 4 {
         say_fault(NEW);
@@ -165,7 +165,7 @@ fn traceback(
     status: &mut [u32],
     weights: &mut [f32],
 ) -> Made
-    requires { (start + count ≤ wordCount bytes.now) × (65537 ≤ length status.old) × (65537 ≤ length weights.old) }
+    requires { (start + count ≤ word_count bytes.now) × (65537 ≤ length status.old) × (65537 ≤ length weights.old) }
 {
     if count % 3 != 1 {
         say_fault(TRACEBACK);
@@ -187,7 +187,7 @@ fn tell(
     status: &mut [u32],
     weights: &mut [f32],
 ) -> Made
-    requires { (start + 3 * n + 1 ≤ wordCount bytes.now) × (n ≤ 4096) × (65537 ≤ length status.old) × (65537 ≤ length weights.old) }
+    requires { (start + 3 * n + 1 ≤ word_count bytes.now) × (n ≤ 4096) × (65537 ≤ length status.old) × (65537 ≤ length weights.old) }
 {
     let mut silence = [0i32; 4096];
     let m = held.count;
@@ -243,7 +243,7 @@ fn deltas(
     status: &mut [u32],
     weights: &mut [f32],
 ) -> Made
-    requires { (start + count ≤ wordCount bytes.now) × (65537 ≤ length status.old) × (65537 ≤ length weights.old) }
+    requires { (start + count ≤ word_count bytes.now) × (65537 ≤ length status.old) × (65537 ≤ length weights.old) }
 {
     if count < 4 {
         say_fault(DELTAS);
@@ -297,7 +297,7 @@ fn weigh(
 
 // The places of the output. Where the record does not say, there is no limit.
 fn room_of(bytes: &[u8], start: usize, count: usize) -> usize
-    requires { start + count ≤ wordCount bytes.now }
+    requires { start + count ≤ word_count bytes.now }
 {
     if count == 5 {
         return script::word_at(bytes, start + 4) as usize;
@@ -340,7 +340,7 @@ enum Lists {
 
 // The payload of a trailing call is the silence phones with their number before them, and the segments.
 fn lists_of(bytes: &[u8], start: usize, count: usize) -> Lists
-    requires { start + count ≤ wordCount bytes.now }
+    requires { start + count ≤ word_count bytes.now }
     ensures { FillUp count result }
 {
     if count == 0 {
@@ -359,7 +359,7 @@ fn lists_of(bytes: &[u8], start: usize, count: usize) -> Lists
 }
 
 fn trailing(bytes: &[u8], start: usize, count: usize, made: Made) -> Made
-    requires { start + count ≤ wordCount bytes.now }
+    requires { start + count ≤ word_count bytes.now }
 {
     match lists_of(bytes, start, count) {
         Lists::Lengths(m, n) => {
@@ -377,7 +377,7 @@ fn trailing(bytes: &[u8], start: usize, count: usize, made: Made) -> Made
 
 // Answers where the lists fit, and tells whether they do.
 fn count_trailing(bytes: &[u8], start: usize, m: usize, n: usize) -> bool
-    requires { start + (1 + m + 3 * n) ≤ wordCount bytes.now }
+    requires { start + (1 + m + 3 * n) ≤ word_count bytes.now }
 {
     let mut silence = [0i32; 4096];
     if !script::fill_i32(bytes, start + 1, &mut silence, m) {
@@ -438,7 +438,7 @@ fn fill_segments(
     starts: &mut [u32],
     ends: &mut [u32],
 )
-    requires { (at + 3 * n ≤ wordCount bytes.now) × (n ≤ length phones.old) × (n ≤ length starts.old) × (n ≤ length ends.old) }
+    requires { (at + 3 * n ≤ word_count bytes.now) × (n ≤ length phones.old) × (n ≤ length starts.old) × (n ≤ length ends.old) }
 {
     let mut i = 0;
     while i < n {

@@ -1,6 +1,6 @@
 // Courses of a frame.
 ghost use Rattle.std.specs.Prelude.{◌+◌, ◌≤◌};
-ghost use Rattle.script.specs.Words.{wordCount};
+ghost use Rattle.script.specs.Words.{word_count};
 
 use crate::{say, say_fault};
 use courses::Course;
@@ -14,7 +14,7 @@ pub(crate) const COURSE: u32 = 15;
 const WORDS: usize = 3;
 
 pub(crate) fn answer(bytes: &[u8], r: Record)
-    requires { r.start + r.count ≤ wordCount bytes.now }
+    requires { r.start + r.count ≤ word_count bytes.now }
 {
     let start = r.start;
     if r.count != WORDS {

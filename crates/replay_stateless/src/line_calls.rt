@@ -1,6 +1,6 @@
 // Lines of refusals, written and read.
 ghost use Rattle.std.specs.Prelude.{◌+◌, ◌≤◌, length};
-ghost use Rattle.script.specs.Words.{wordCount};
+ghost use Rattle.script.specs.Words.{word_count};
 
 use crate::{say, say_fault};
 use libc::STDOUT_FILENO;
@@ -26,7 +26,7 @@ enum Given {
 }
 
 pub(crate) fn write(bytes: &[u8], r: Record)
-    requires { r.start + r.count ≤ wordCount bytes.now }
+    requires { r.start + r.count ≤ word_count bytes.now }
 {
     let start = r.start;
     if r.count != WORDS {
@@ -107,7 +107,7 @@ fn say_line(line: &[u8])
 
 // The bytes are lent as they stand in the script, and have to fill the payload.
 pub(crate) fn read(bytes: &[u8], r: Record)
-    requires { r.start + r.count ≤ wordCount bytes.now }
+    requires { r.start + r.count ≤ word_count bytes.now }
 {
     let start = r.start;
     let count = r.count;

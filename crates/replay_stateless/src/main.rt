@@ -5,7 +5,7 @@ mod searches;
 mod shuffles;
 
 ghost use Rattle.std.specs.Prelude.{◌+◌, ◌≤◌};
-ghost use Rattle.script.specs.Words.{wordCount};
+ghost use Rattle.script.specs.Words.{word_count};
 
 use course_calls::COURSE;
 use libc::{STDIN_FILENO, STDOUT_FILENO};
@@ -44,7 +44,7 @@ fn replay(bytes: &[u8]) {
 }
 
 fn answer(bytes: &[u8], r: Record)
-    requires { r.start + r.count ≤ wordCount bytes.now }
+    requires { r.start + r.count ≤ word_count bytes.now }
 {
     let kind = r.kind;
     match kind {

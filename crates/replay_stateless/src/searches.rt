@@ -1,7 +1,7 @@
 // Searches of a word in a reading list.
 ghost use Rattle.std.specs.Prelude.{◌+◌, ◌^◌, ◌≤◌};
 ghost use Rattle.reading_search.specs.Found.{Below};
-ghost use Rattle.script.specs.Words.{wordCount};
+ghost use Rattle.script.specs.Words.{word_count};
 ghost use Rattle.replay_stateless.specs.Shape.{FillUp};
 
 use crate::say_fault;
@@ -23,7 +23,7 @@ enum Lists {
 }
 
 pub(crate) fn answer(bytes: &[u8], r: Record)
-    requires { r.start + r.count ≤ wordCount bytes.now }
+    requires { r.start + r.count ≤ word_count bytes.now }
 {
     let start = r.start;
     match lists_of(bytes, start, r.count) {
@@ -34,7 +34,7 @@ pub(crate) fn answer(bytes: &[u8], r: Record)
 
 // Whether the lists fill the payload, as they have to.
 fn lists_of(bytes: &[u8], start: usize, count: usize) -> Lists
-    requires { start + count ≤ wordCount bytes.now }
+    requires { start + count ≤ word_count bytes.now }
     ensures { FillUp count result }
 {
     if count < FIXED {
@@ -53,7 +53,7 @@ fn lists_of(bytes: &[u8], start: usize, count: usize) -> Lists
 }
 
 fn search(bytes: &[u8], start: usize, n: usize, m: usize)
-    requires { start + (n + m + 3) ≤ wordCount bytes.now }
+    requires { start + (n + m + 3) ≤ word_count bytes.now }
 {
     let mut ends = [0u32; 16384];
     let mut words = [0i32; 16384];

@@ -1,6 +1,6 @@
 // Shuffles of a block, and the way back.
 ghost use Rattle.std.specs.Prelude.{◌+◌, ◌≤◌, length};
-ghost use Rattle.script.specs.Words.{wordCount};
+ghost use Rattle.script.specs.Words.{word_count};
 
 use crate::{say, say_fault};
 use libc::STDOUT_FILENO;
@@ -17,7 +17,7 @@ const FIXED: usize = 2;
 
 // The block is lent as it stands in the script, and has to fill the payload.
 pub(crate) fn answer(bytes: &[u8], r: Record)
-    requires { r.start + r.count ≤ wordCount bytes.now }
+    requires { r.start + r.count ≤ word_count bytes.now }
 {
     let start = r.start;
     let count = r.count;

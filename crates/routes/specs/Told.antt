@@ -8,16 +8,16 @@ use Rattle.records.specs.History.{History}
 use Rattle.records.specs.Layout.{store}
 use Rattle.records.specs.Stands.{Stands}
 use Rattle.stores.specs.Shown.{Is}
-use Rattle.traceback.specs.Traced.{numbersOf, Routed, trail_is}
+use Rattle.traceback.specs.Traced.{numbers_of, Routed, trail_is}
 use Rattle.below.specs.Stored.{stands_for, Decoded}
-use Rattle.routes.specs.Back.{backAlong}
-use Rattle.routes.specs.Words.{back-trail}
+use Rattle.routes.specs.Back.{back_along}
+use Rattle.routes.specs.Words.{back_trail}
 use Rattle.routes.specs.Entries.{RouteIs}
 
 module _ {rs : List ℕ} {ls : List ℤ} {gs : List Float} {used : ℕ} {h : ℕ → History} (ok : Stands (store rs ls gs) used h) (n link : ℕ) (p : Path) (cost : Float) (shows : Is h used link p) where
-  pub words-told : (route : List ℕ) → Routed used route → (trace n (numbersOf h route) p cost).words ≡ reverse (backAlong rs ls route link)
-  words-told route r = ap (λ (t : Traced). t.words) (trail_is rs ls gs route n used h ok r link p cost shows) ∙ sym (back-trail rs ls route n link)
+  pub words_told : (route : List ℕ) → Routed used route → (trace n (numbers_of h route) p cost).words ≡ reverse (back_along rs ls route link)
+  words_told route r = ap (λ (t : Traced). t.words) (trail_is rs ls gs route n used h ok r link p cost shows) ∙ sym (back_trail rs ls route n link)
 
   -- along an entry's route
-  pub entry-words : {hs ns : List ℕ} {xs : List Float} {bs : List Below} {entry k : ℕ} (route : List ℕ) → RouteIs ns entry route k → Decoded h used hs ns xs bs → entry ≤ length bs → (trace n (stands_for bs entry).route p cost).words ≡ reverse (backAlong rs ls (take k route) link)
-  entry-words {k = k} route i d l = ap (λ (js : List ℕ). (trace n js p cost).words) (sym (i.is d l)) ∙ words-told (take k route) (i.routed d l)
+  pub entry_words : {hs ns : List ℕ} {xs : List Float} {bs : List Below} {entry k : ℕ} (route : List ℕ) → RouteIs ns entry route k → Decoded h used hs ns xs bs → entry ≤ length bs → (trace n (stands_for bs entry).route p cost).words ≡ reverse (back_along rs ls (take k route) link)
+  entry_words {k = k} route i d l = ap (λ (js : List ℕ). (trace n js p cost).words) (sym (i.is d l)) ∙ words_told (take k route) (i.routed d l)

@@ -3,12 +3,12 @@
 ghost use Rattle.std.specs.Prelude.{◌≡◌, ◌+◌, ◌-◌, ◌*◌, ◌≤◌, ◌<◌, ◌&&◌, ◌||◌, cond, reverse, length};
 ghost use Rattle.model.specs.Basics.{eqℤ, ltℤ, nonzero};
 ghost use Rattle.model.specs.Path.{same_words};
-ghost use Rattle.model.specs.Readings.{wordsLt};
+ghost use Rattle.model.specs.Readings.{words_lt};
 ghost use Rattle.summaries.specs.Summed.{Skips};
 ghost use Rattle.traceback.specs.Chain.{Walkable};
-ghost use Rattle.routes.specs.Back.{backAlong, NextOn, Skipped, WordsWritten};
-ghost use Rattle.routes.specs.Before.{beforeBy};
-ghost use Rattle.routes.specs.Counts.{countAt, Counts};
+ghost use Rattle.routes.specs.Back.{back_along, NextOn, Skipped, WordsWritten};
+ghost use Rattle.routes.specs.Before.{before_by};
+ghost use Rattle.routes.specs.Counts.{count_at, Counts};
 ghost use Rattle.routes.specs.Entries.{JoinPut, RouteAsks, RouteIs};
 
 // A word, and the record to go on from; word 0 at the end.
@@ -46,7 +46,7 @@ pub fn same_along(
     rb: &[u32],
 ) -> bool
     requires { (Walkable records.now labels.now used) × (a ≤ used) × (b ≤ used) }
-    ensures { result ≡ same_words (backAlong records.now labels.now ra.now a) (backAlong records.now labels.now rb.now b) }
+    ensures { result ≡ same_words (back_along records.now labels.now ra.now a) (back_along records.now labels.now rb.now b) }
 {
     let mut p = a;
     let mut q = b;
@@ -68,7 +68,7 @@ pub fn same_along(
 
 // The record from which the words behind the newest n go on.
 fn skip_words(records: &[u32], labels: &[i32], route: &[u32], used: u32, link: u32, n: u32) -> u32
-    requires { (Walkable records.now labels.now used) × (link ≤ used) × (n ≤ length (backAlong records.now labels.now route.now link)) }
+    requires { (Walkable records.now labels.now used) × (link ≤ used) × (n ≤ length (back_along records.now labels.now route.now link)) }
     ensures { Skipped records.now labels.now route.now link n result }
 {
     let mut r = link;
@@ -115,8 +115,8 @@ fn before_along(
     rb: &[u32],
     newer: bool,
 ) -> bool
-    requires { (Walkable records.now labels.now used) × (a ≤ used) × (b ≤ used) × (length (backAlong records.now labels.now ra.now a) ≡ length (backAlong records.now labels.now rb.now b)) }
-    ensures { result ≡ beforeBy (backAlong records.now labels.now ra.now a) (backAlong records.now labels.now rb.now b) newer }
+    requires { (Walkable records.now labels.now used) × (a ≤ used) × (b ≤ used) × (length (back_along records.now labels.now ra.now a) ≡ length (back_along records.now labels.now rb.now b)) }
+    ensures { result ≡ before_by (back_along records.now labels.now ra.now a) (back_along records.now labels.now rb.now b) newer }
 {
     let mut before = newer;
     let mut p = a;
@@ -148,8 +148,8 @@ pub fn words_before(
     rb: &[u32],
     n: u32,
 ) -> bool
-    requires { (Walkable records.now labels.now used) × (a ≤ used) × (b ≤ used) × (m ≡ length (backAlong records.now labels.now ra.now a)) × (n ≡ length (backAlong records.now labels.now rb.now b)) }
-    ensures { result ≡ wordsLt (reverse (backAlong records.now labels.now ra.now a)) (reverse (backAlong records.now labels.now rb.now b)) }
+    requires { (Walkable records.now labels.now used) × (a ≤ used) × (b ≤ used) × (m ≡ length (back_along records.now labels.now ra.now a)) × (n ≡ length (back_along records.now labels.now rb.now b)) }
+    ensures { result ≡ words_lt (reverse (back_along records.now labels.now ra.now a)) (reverse (back_along records.now labels.now rb.now b)) }
 {
     let p = skip_words(records, labels, ra, used, a, excess(m, n));
     let q = skip_words(records, labels, rb, used, b, excess(n, m));
@@ -166,7 +166,7 @@ pub fn count_words(
     link: u32,
 ) -> u32
     requires { (Walkable records.now labels.now used) × (link ≤ used) × (Skips records.now labels.now used used history_skips.now) }
-    ensures { result ≡ length (backAlong records.now labels.now route.now link) }
+    ensures { result ≡ length (back_along records.now labels.now route.now link) }
 {
     let mut r = link;
     let mut n = 0;
@@ -189,8 +189,8 @@ pub fn count_words(
 
 // How many words a record's history has, out of the table. 0 is no record.
 pub fn count_at(history_counts: &[u64], r: u32) -> u32
-    requires { (r ≤ length history_counts.now) × (countAt history_counts.now r ≤ r) }
-    ensures { result ≡ countAt history_counts.now r }
+    requires { (r ≤ length history_counts.now) × (count_at history_counts.now r ≤ r) }
+    ensures { result ≡ count_at history_counts.now r }
 {
     if r == 0 {
         return 0;
@@ -243,8 +243,8 @@ pub fn write_words(
     n: u32,
     words: &mut [i32],
 )
-    requires { (Walkable records.now labels.now used) × (link ≤ used) × (n ≡ length (backAlong records.now labels.now route.now link)) × (n ≤ length words.old) × (Skips records.now labels.now used used history_skips.now) }
-    ensures { WordsWritten (backAlong records.now labels.now route.now link) n words.old words.new }
+    requires { (Walkable records.now labels.now used) × (link ≤ used) × (n ≡ length (back_along records.now labels.now route.now link)) × (n ≤ length words.old) × (Skips records.now labels.now used used history_skips.now) }
+    ensures { WordsWritten (back_along records.now labels.now route.now link) n words.old words.new }
 {
     let mut r = link;
     let mut k = n as usize;

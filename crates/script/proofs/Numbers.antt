@@ -22,9 +22,9 @@ pub casts : (z : ℤ) → le_z (pos 0) z ≡ true → SFits w32 z → T (non_neg
 casts (pos n) t s = (tt, record { fits = omega (arith, s.sfits) })
 casts (negsuc n) t s = never t
 
-pub own-word : (z : ℤ) → le_z (pos 0) z ≡ true → nat_abs z ≡ of_z w32 z
-own-word (pos n) t = refl
-own-word (negsuc n) t = never t
+pub own_word : (z : ℤ) → le_z (pos 0) z ≡ true → nat_abs z ≡ of_z w32 z
+own_word (pos n) t = refl
+own_word (negsuc n) t = never t
 
 -- one below zero: its bits turned over are not below zero, and turned over again they are its own
 turned : (z : ℤ) → le_z (pos 0) z ≡ false → SFits w32 z → to_z w32 (4294967295 - of_z w32 z) ≡ pos (mag z)
@@ -34,11 +34,11 @@ turned (negsuc n) t s =
     let e : 4294967295 - (2 ^ 32 - suc n) ≡ n = omega arith in
     ap (to_z w32) e ∙ to_z_pos w32 n h
 
-pub turned-casts : (z : ℤ) → le_z (pos 0) z ≡ false → SFits w32 z → T (non_neg (to_z w32 (4294967295 - of_z w32 z))) × Fits w32 (nat_abs (to_z w32 (4294967295 - of_z w32 z)))
-turned-casts z t s = rw (turned z t s) (tt, record { fits = omega (arith, s.sfits) })
+pub turned_casts : (z : ℤ) → le_z (pos 0) z ≡ false → SFits w32 z → T (non_neg (to_z w32 (4294967295 - of_z w32 z))) × Fits w32 (nat_abs (to_z w32 (4294967295 - of_z w32 z)))
+turned_casts z t s = rw (turned z t s) (tt, record { fits = omega (arith, s.sfits) })
 
-pub turned-back : (z : ℤ) → le_z (pos 0) z ≡ false → SFits w32 z → 4294967295 - nat_abs (to_z w32 (4294967295 - of_z w32 z)) ≡ of_z w32 z
-turned-back z t s = rw (turned z t s) (own z t)
+pub turned_back : (z : ℤ) → le_z (pos 0) z ≡ false → SFits w32 z → 4294967295 - nat_abs (to_z w32 (4294967295 - of_z w32 z)) ≡ of_z w32 z
+turned_back z t s = rw (turned z t s) (own z t)
   where
     own : (z : ℤ) → le_z (pos 0) z ≡ false → 4294967295 - mag z ≡ of_z w32 z
     own (pos n) t = never (sym t ∙ le-leb 0 n zero-le)
@@ -46,20 +46,20 @@ turned-back z t s = rw (turned z t s) (own z t)
 
 -- ---- f32
 
-is-nan : (x : Float) → is_nan x ≡ true → x ≡ nan
+is_nan : (x : Float) → is_nan x ≡ true → x ≡ nan
 unfolding is_nan
-is-nan nan e = refl
-is-nan (inf s) e = never e
-is-nan (fin s m d) e = never e
+is_nan nan e = refl
+is_nan (inf s) e = never e
+is_nan (fin s m d) e = never e
 
 pub nan_pattern : (w : ℕ) → 2139095040 < w % 2147483648 → of_bits binary32 w ≡ nan
-nan_pattern w h = is-nan (of_bits binary32 w) (sym (nan_bits_is binary32 w) ∙ nan_bits_above binary32 w ∙ lt-ltb _ _ h)
+nan_pattern w h = is_nan (of_bits binary32 w) (sym (nan_bits_is binary32 w) ∙ nan_bits_above binary32 w ∙ lt-ltb _ _ h)
 
-pub no-nan-pattern : (w : ℕ) → w % 2147483648 ≤ 2139095040 → T (not (nan_bits binary32 w))
-no-nan-pattern w h = fails (nan_bits_above binary32 w ∙ le-ltb _ _ h)
+pub no_nan_pattern : (w : ℕ) → w % 2147483648 ≤ 2139095040 → T (not (nan_bits binary32 w))
+no_nan_pattern w h = fails (nan_bits_above binary32 w ∙ le-ltb _ _ h)
 
-pub same-as-itself : (x : Float) → ne x x ≡ false → T (not (is_nan x))
+pub same_as_itself : (x : Float) → ne x x ≡ false → T (not (is_nan x))
 unfolding is_nan
-same-as-itself nan e = never (sym e ∙ nan_differs)
-same-as-itself (inf s) e = tt
-same-as-itself (fin s m d) e = tt
+same_as_itself nan e = never (sym e ∙ nan_differs)
+same_as_itself (inf s) e = tt
+same_as_itself (fin s m d) e = tt

@@ -1,32 +1,32 @@
 -- A record: its kind, how many words its payload has, and the payload. Assumes nothing.
 use Rattle.std.specs.Prelude.{◌≡◌, refl, ℕ, ◌+◌, ◌%◌, ◌≤◌, Bool, true, false, cond, List, ◌++◌, leb, eqb, length}
 use Rattle.std.proofs.Common.{arith, leb-true}
-use Rattle.script.specs.Words.{wordCount, wordAt, bytes_of}
+use Rattle.script.specs.Words.{word_count, word_at, bytes_of}
 use Rattle.script.specs.declared.Record.{Record}
 use Rattle.script.specs.declared.NextRecord.{NextRecord}
 use Rattle.script.specs.declared.NextRecord.TheVariants.{Whole, Short, End}
 
 -- the record that starts at a place: End at the last whole word, Short where the bytes end within it
-unfoldable pub recordAt : List ℕ → ℕ → NextRecord
-recordAt bs at =
-    cond (leb (wordCount bs) at) (cond (eqb (length bs % 4) 0) End Short)
-    (cond (leb (at + 2 + wordAt bs (at + 1)) (wordCount bs)) (Whole (record { kind = wordAt bs at; start = at + 2; count = wordAt bs (at + 1) })) Short)
+unfoldable pub record_at : List ℕ → ℕ → NextRecord
+record_at bs at =
+    cond (leb (word_count bs) at) (cond (eqb (length bs % 4) 0) End Short)
+    (cond (leb (at + 2 + word_at bs (at + 1)) (word_count bs)) (Whole (record { kind = word_at bs at; start = at + 2; count = word_at bs (at + 1) })) Short)
 
 -- a whole record lies within the words
-pub whole-within : (bs : List ℕ) (at : ℕ) (r : Record) → Whole r ≡ recordAt bs at → (r.start ≡ at + 2) × (r.start + r.count ≤ wordCount bs)
-unfolding recordAt
-whole-within bs at r e = go (leb (wordCount bs) at) (leb (at + 2 + wordAt bs (at + 1)) (wordCount bs)) (eqb (length bs % 4) 0) refl e
+pub whole_within : (bs : List ℕ) (at : ℕ) (r : Record) → Whole r ≡ record_at bs at → (r.start ≡ at + 2) × (r.start + r.count ≤ word_count bs)
+unfolding record_at
+whole_within bs at r e = go (leb (word_count bs) at) (leb (at + 2 + word_at bs (at + 1)) (word_count bs)) (eqb (length bs % 4) 0) refl e
   where
     x : Record
-    x = record { kind = wordAt bs at; start = at + 2; count = wordAt bs (at + 1) }
+    x = record { kind = word_at bs at; start = at + 2; count = word_at bs (at + 1) }
 
-    go : (p q s : Bool) → leb (at + 2 + wordAt bs (at + 1)) (wordCount bs) ≡ q → Whole r ≡ cond p (cond s End Short) (cond q (Whole x) Short)
-        → (r.start ≡ at + 2) × (r.start + r.count ≤ wordCount bs)
+    go : (p q s : Bool) → leb (at + 2 + word_at bs (at + 1)) (word_count bs) ≡ q → Whole r ≡ cond p (cond s End Short) (cond q (Whole x) Short)
+        → (r.start ≡ at + 2) × (r.start + r.count ≤ word_count bs)
     go true q true t e = let z : ◌≡◌ {A = ℕ} 0 1 = cc in omega arith
     go true q false t e = let z : ◌≡◌ {A = ℕ} 0 1 = cc in omega arith
     go false true s t e = let same : r ≡ x = cc in rw same (refl, leb-true _ _ t)
     go false false s t e = let z : ◌≡◌ {A = ℕ} 0 1 = cc in omega arith
 
 -- the answer to a faulty script: a record of one word
-abbrev pub faultBytes : ℕ → List ℕ
-faultBytes kind = bytes_of kind ++ bytes_of 1 ++ bytes_of 4294967295
+abbrev pub fault_bytes : ℕ → List ℕ
+fault_bytes kind = bytes_of kind ++ bytes_of 1 ++ bytes_of 4294967295

@@ -5,8 +5,8 @@ ghost use Rattle.std.specs.Int.{w32};
 ghost use Rattle.std.proofs.Common.{to_z, of_z};
 ghost use Rattle.std.specs.Float.{binary32};
 ghost use Rattle.std.specs.Float.Ieee.{of_bits, to_bits};
-ghost use Rattle.script.specs.Words.{wordCount, word_of, wordAt, longAt, fitting, Filled, Put, PutLong};
-ghost use Rattle.script.specs.Records.{recordAt, faultBytes};
+ghost use Rattle.script.specs.Words.{word_count, word_of, word_at, long_at, fitting, Filled, Put, PutLong};
+ghost use Rattle.script.specs.Records.{record_at, fault_bytes};
 
 // The refusal that means a faulty script.
 pub const FAULT: u32 = 4_294_967_295;
@@ -57,7 +57,7 @@ pub fn bits_of(x: f32) -> u32
 
 // How many whole words there are.
 pub fn words(bytes: &[u8]) -> usize
-    ensures { result ≡ wordCount bytes.now }
+    ensures { result ≡ word_count bytes.now }
 {
     bytes.len() / 4
 }
@@ -76,7 +76,7 @@ fn joined(a: u8, b: u8, c: u8, d: u8) -> u32
 
 // The word at a place, and 0 past the last whole word.
 pub fn word_at(bytes: &[u8], at: usize) -> u32
-    ensures { result ≡ wordAt bytes.now at }
+    ensures { result ≡ word_at bytes.now at }
 {
     if words(bytes) <= at {
         return 0;
@@ -93,7 +93,7 @@ fn long(w: u32) -> u64
 
 // The 64-bit number of two words, the low one first.
 pub fn long_at(bytes: &[u8], at: usize) -> u64
-    ensures { result ≡ longAt bytes.now at }
+    ensures { result ≡ long_at bytes.now at }
 {
     if words(bytes) <= at {
         return 0;
@@ -121,7 +121,7 @@ pub enum NextRecord {
 
 // The record that starts at a place.
 pub fn record_at(bytes: &[u8], at: usize) -> NextRecord
-    ensures { result ≡ recordAt bytes.now at }
+    ensures { result ≡ record_at bytes.now at }
 {
     let all = words(bytes);
     if all <= at {
@@ -232,7 +232,7 @@ pub fn put_long(out: &mut [u8], at: usize, x: u64) -> usize
 
 // The whole answer record to a faulty script or record: its kind, 1, and FAULT.
 pub fn fault(kind: u32) -> [u8; 12]
-    ensures { result ≡ faultBytes kind }
+    ensures { result ≡ fault_bytes kind }
 {
     let mut out = [0u8; 12];
     put_word(&mut out, 0, kind);

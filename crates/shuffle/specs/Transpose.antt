@@ -8,8 +8,8 @@ use mathlib.Core.List.{List, [], ◌∷◌, map, flat_map}
 use Rattle.std.proofs.Math.ListN.{length, get_or-append}
 use Rattle.std.proofs.Math.Seq.{get_or-append-add}
 use Rattle.lists.specs.Lists.{range}
-use Rattle.lists.specs.Parts.{range-many, range_at}
-use Rattle.lists.specs.Tests.{case, eq-or-not}
+use Rattle.lists.specs.Parts.{range_many, range_at}
+use Rattle.lists.specs.Tests.{case, eq_or_not}
 
 -- the numbers of column c, from the first row to the last
 abbrev pub column : (rows columns : ℕ) → List ℕ → ℕ → List ℕ
@@ -22,12 +22,12 @@ transpose rows columns table = flat_map (column rows columns table) (range 0 col
 -- ---- the place of a number: its row times the columns, and its column
 
 -- places are within the table
-pub place-within : {rows columns r c : ℕ} → r < rows → c < columns → r * columns + c < rows * columns
-place-within {rows} {columns} {r} {c} h k = omega (arith, suc-mul r columns, mul-le-mul_right {m = suc r} {n = rows} columns (omega arith))
+pub place_within : {rows columns r c : ℕ} → r < rows → c < columns → r * columns + c < rows * columns
+place_within {rows} {columns} {r} {c} h k = omega (arith, suc-mul r columns, mul-le-mul_right {m = suc r} {n = rows} columns (omega arith))
 
 -- and no two numbers have the same
-pub place-apart : (columns : ℕ) {r c r' c' : ℕ} → c < columns → c' < columns → r * columns + c ≡ r' * columns + c' → (r ≡ r') × (c ≡ c')
-place-apart columns {r} {c} {r'} {c'} h k e = (sym (row r c h) ∙ rw e (row r' c' k), sym (col r c h) ∙ rw e (col r' c' k))
+pub place_apart : (columns : ℕ) {r c r' c' : ℕ} → c < columns → c' < columns → r * columns + c ≡ r' * columns + c' → (r ≡ r') × (c ≡ c')
+place_apart columns {r} {c} {r'} {c'} h k e = (sym (row r c h) ∙ rw e (row r' c' k), sym (col r c h) ∙ rw e (col r' c' k))
   where
     row : (r c : ℕ) → c < columns → (r * columns + c) / columns ≡ r
     row r c h = rw (mul-add-div_right {m = columns} (omega arith) r c, div-eq_of_lt h) (omega arith)
@@ -55,32 +55,32 @@ module _ (f : ℕ → List ℕ) (n : ℕ) (long : (c : ℕ) → length (f c) ≡
 
 module _ (rows columns : ℕ) (table : List ℕ) where
   column-length : (c : ℕ) → length (column rows columns table c) ≡ rows
-  column-length c = range-many _ 0 rows
+  column-length c = range_many _ 0 rows
 
   pub transpose-length : length (transpose rows columns table) ≡ columns * rows
   unfolding transpose
   transpose-length = rows-length (column rows columns table) rows column-length 0 columns
 
   -- row and column change places
-  pub transpose-at : {r c : ℕ} → r < rows → c < columns → get_or (transpose rows columns table) (c * rows + r) 0 ≡ get_or table (r * columns + c) 0
+  pub transpose_at : {r c : ℕ} → r < rows → c < columns → get_or (transpose rows columns table) (c * rows + r) 0 ≡ get_or table (r * columns + c) 0
   unfolding transpose
-  transpose-at {r} {c} h k =
+  transpose_at {r} {c} h k =
       rows_at (column rows columns table) rows column-length 0 columns c r k h
       ∙ range_at _ 0 rows r 0 h ∙ simp zero-add
 
   -- and a list in which they have is the transposition
-  pub is-transpose : (out : List ℕ) → length out ≡ columns * rows
+  pub is_transpose : (out : List ℕ) → length out ≡ columns * rows
       → ((r c : ℕ) → r < rows → c < columns → get_or out (c * rows + r) 0 ≡ get_or table (r * columns + c) 0) → out ≡ transpose rows columns table
-  is-transpose out e same = ext_get_or 0 out (transpose rows columns table) (e ∙ sym transpose-length) at
+  is_transpose out e same = ext_get_or 0 out (transpose rows columns table) (e ∙ sym transpose-length) at
     where
       at : (i : ℕ) → i < length out → get_or out i 0 ≡ get_or (transpose rows columns table) i 0
       at i h =
-          let some : 0 < rows = case (eq-or-not rows 0) (λ z. absurd (omega (arith, rw (z, mul-zero) at e))) (λ n. omega arith) in
+          let some : 0 < rows = case (eq_or_not rows 0) (λ z. absurd (omega (arith, rw (z, mul-zero) at e))) (λ n. omega arith) in
           let r = mod-lt i some in
           let c : i / rows < columns = (div-lt_iff_lt-mul some).1 (omega arith) in
-          rw (← div-add-mod' i rows) (same (i % rows) (i / rows) r c ∙ sym (transpose-at r c))
+          rw (← div-add-mod' i rows) (same (i % rows) (i / rows) r c ∙ sym (transpose_at r c))
 
 -- transposing twice restores the table
 pub twice : (rows columns : ℕ) (table : List ℕ) → length table ≡ rows * columns → transpose columns rows (transpose rows columns table) ≡ table
 twice rows columns table e =
-    sym (is-transpose columns rows (transpose rows columns table) table e (λ r c h k. sym (transpose-at rows columns table k h)))
+    sym (is_transpose columns rows (transpose rows columns table) table e (λ r c h k. sym (transpose_at rows columns table k h)))

@@ -7,37 +7,37 @@ use lib.IntN.{ℤ}
 use lib.Ieee.{Float}
 use Rattle.lists.specs.Tests.{never}
 use Rattle.model.specs.Basics.{Outcome, ok, refused}
-use Rattle.model.specs.Silence.{SilenceWeighting as Weighting, withInfo, weightingWrong, tooMany, badSegments, grown, tellFrom, computeCurrentTraceback, Deltas}
+use Rattle.model.specs.Silence.{SilenceWeighting as Weighting, with_info, weighting_wrong, too_many, bad_segments, grown, tell_from, compute_current_traceback, Deltas}
 use Rattle.silence_weighting.specs.declared.SilenceWeighting.{SilenceWeighting}
-use Rattle.silence_weighting.specs.State.{places, state_of, segmentsOf}
+use Rattle.silence_weighting.specs.State.{places, state_of, segments_of}
 use Rattle.silence_weighting.specs.declared.Window.{Window}
 use Rattle.silence_weighting.specs.declared.Plan.{Plan}
 use Rattle.silence_weighting.specs.Answers.{brought}
 use Rattle.silence_weighting.specs.Parts.{pick}
 
-abbrev tracedFor : (wrong long much bad : Bool) → Weighting → Outcome Weighting
-tracedFor wrong long much bad d = cond wrong (refused 7) (cond long (refused 10) (elim (much || bad) [ true ↦ refused 10 | false ↦ ok d ]))
+abbrev traced_for : (wrong long much bad : Bool) → Weighting → Outcome Weighting
+traced_for wrong long much bad d = cond wrong (refused 7) (cond long (refused 10) (elim (much || bad) [ true ↦ refused 10 | false ↦ ok d ]))
 
-pub traced-by : (ps : List ℤ) (s : SilenceWeighting) (phones : List ℤ) (starts ends : List ℕ) (n : ℕ) (ss : List ℕ) (ws : List Float) {wrong long much bad : Bool}
-    → weightingWrong s.weight s.subsampling ≡ wrong → tooMany (places ss ws) s.frames ≡ long → tooMany (places ss ws) n ≡ much → badSegments (segmentsOf phones starts ends) ≡ bad
+pub traced_by : (ps : List ℤ) (s : SilenceWeighting) (phones : List ℤ) (starts ends : List ℕ) (n : ℕ) (ss : List ℕ) (ws : List Float) {wrong long much bad : Bool}
+    → weighting_wrong s.weight s.subsampling ≡ wrong → too_many (places ss ws) s.frames ≡ long → too_many (places ss ws) n ≡ much → bad_segments (segments_of phones starts ends) ≡ bad
     → let st = state_of ps s ss ws in
-    tracedFor wrong long much bad (withInfo st (tellFrom ps (segmentsOf phones starts ends) n 0 (grown n st.info)))
-    ≡ brought s (places ss ws) (computeCurrentTraceback (places ss ws) (segmentsOf phones starts ends) n st)
-unfolding brought computeCurrentTraceback state_of
-traced-by ps s phones starts ends n ss ws p q r t =
+    traced_for wrong long much bad (with_info st (tell_from ps (segments_of phones starts ends) n 0 (grown n st.info)))
+    ≡ brought s (places ss ws) (compute_current_traceback (places ss ws) (segments_of phones starts ends) n st)
+unfolding brought compute_current_traceback state_of
+traced_by ps s phones starts ends n ss ws p q r t =
     let st = state_of ps s ss ws in
-    sym (λ i. tracedFor (p i) (q i) (r i) (t i) (withInfo st (tellFrom ps (segmentsOf phones starts ends) n 0 (grown n st.info))))
+    sym (λ i. traced_for (p i) (q i) (r i) (t i) (with_info st (tell_from ps (segments_of phones starts ends) n 0 (grown n st.info))))
 
 -- ---- the differences
 
-abbrev pub weighedFor : (wrong long late early none much short : Bool) → (nothing full : Deltas) → Outcome Deltas
-weighedFor wrong long late early none much short nothing full =
+abbrev pub weighed_for : (wrong long late early none much short : Bool) → (nothing full : Deltas) → Outcome Deltas
+weighed_for wrong long late early none much short nothing full =
     let some-yet : Outcome Deltas = elim short [ true ↦ refused 11 | false ↦ ok full ] in
     let none_yet : Outcome Deltas = ok nothing in
     cond wrong (refused 7) (cond long (refused 10) (elim (late || early || much) [ true ↦ refused 10 | false ↦ elim none [ true ↦ none_yet | false ↦ some-yet ] ]))
 
-abbrev planFor : (wrong long late early none much short : Bool) → Window → ℕ → Plan
-planFor wrong long late early none much short w c =
+abbrev plan_for : (wrong long late early none much short : Bool) → Window → ℕ → Plan
+plan_for wrong long late early none much short w c =
     pick wrong (Plan.Refused 7) (pick long (Plan.Refused 10) (pick late (Plan.Refused 10) (pick early (Plan.Refused 10) (pick none Plan.Nothing (pick much (Plan.Refused 10) (pick short (Plan.Refused 11) (Plan.Write w c)))))))
 
 -- what a plan says of the definition's answer; where it writes, F holds
@@ -48,7 +48,7 @@ Planned nothing full w c F (Plan.Write v n) e = ((v ≡ w) × (n ≡ c)) × ((e 
 
 pub planned : (wrong long late early none much short : Bool) (nothing full : Deltas) (w : Window) (c : ℕ) (F : Type 0) → (wrong ≡ false → none ≡ true → much ≡ false)
     → (wrong ≡ false → long ≡ false → early ≡ false → much ≡ false → short ≡ false → F)
-    → Planned nothing full w c F (planFor wrong long late early none much short w c) (weighedFor wrong long late early none much short nothing full)
+    → Planned nothing full w c F (plan_for wrong long late early none much short w c) (weighed_for wrong long late early none much short nothing full)
 planned true long late early none much short x y w c F h f = refl
 planned false true late early none much short x y w c F h f = refl
 planned false false true early none much short x y w c F h f = refl

@@ -11,34 +11,34 @@ use lib.Seq.{sets}
 use lib.Ieee.{Float}
 use borrow.Author.Tests.{ltb-false, leb-true}
 use Rattle.model.specs.Basics.{Outcome, ok}
-use Rattle.model.specs.Silence.{weightingWrong, tooMany, Deltas, deltasOf, ceilDiv, getDeltaWeights}
+use Rattle.model.specs.Silence.{weighting_wrong, too_many, Deltas, deltas_of, ceil_div, get_delta_weights}
 use Rattle.silence_weighting.specs.declared.SilenceWeighting.{SilenceWeighting}
 use Rattle.silence_weighting.specs.declared.Window.{Window}
 use Rattle.silence_weighting.specs.declared.Plan.{Plan}
 use Rattle.silence_weighting.specs.declared.Weighed.{Weighed}
 use Rattle.silence_weighting.specs.State.{places, state_of}
-use Rattle.silence_weighting.specs.Answers.{brought, Memory, deltasIn, DeltasRight}
-use Rattle.silence_weighting.specs.Parts.{weightsOn, deltasOn, windowOf, plan_of, Sound, Wrote}
-use Rattle.silence_weighting.proofs.Runs.{drop-sets}
-use Rattle.silence_weighting.proofs.Told.{drop-stored}
+use Rattle.silence_weighting.specs.Answers.{brought, Memory, deltas_in, DeltasRight}
+use Rattle.silence_weighting.specs.Parts.{weights_on, deltas_on, window_of, plan_of, Sound, Wrote}
+use Rattle.silence_weighting.proofs.Runs.{drop_sets}
+use Rattle.silence_weighting.proofs.Told.{drop_stored}
 use Rattle.silence_weighting.proofs.Writing.{firsts, seconds}
-use Rattle.silence_weighting.proofs.Limits.{fair, few-frames, sound-window, none_needed}
-use Rattle.silence_weighting.proofs.Weighs.{deltas-told, deltas-are, weights-length, read_back}
-use Rattle.silence_weighting.proofs.Answered.{weighedFor, Planned, planned}
+use Rattle.silence_weighting.proofs.Limits.{fair, few_frames, sound_window, none_needed}
+use Rattle.silence_weighting.proofs.Weighs.{deltas_told, deltas_are_lem, weights-length, read_back}
+use Rattle.silence_weighting.proofs.Answered.{weighed_for, Planned, planned}
 
 -- where a plan writes: the window lies within the memory, and its differences within the output
 pub record Within (s : SilenceWeighting) (n : ℕ) (ss : List ℕ) (ws : List Float) (fs : List ℕ) (ds : List Float) (w : Window) : Type 0 where
   pub sound : Sound w ss ws
   pub store : n ≤ places ss ws
   pub list : s.frames ≤ places ss ws
-  pub room : length (deltasOn w ss ws) ≤ min (length fs) (length ds)
+  pub room : length (deltas_on w ss ws) ≤ min (length fs) (length ds)
 
 module _ (s : SilenceWeighting) (ready from : ℕ) (ss : List ℕ) (ws : List Float) (fs : List ℕ) (ds : List Float) where
   abbrev n : ℕ
-  n = ceilDiv (ready - from) s.subsampling
+  n = ceil_div (ready - from) s.subsampling
 
   abbrev w : Window
-  w = windowOf s n from ss ws
+  w = window_of s n from ss ws
 
   abbrev room : ℕ
   room = min (length fs) (length ds)
@@ -51,82 +51,82 @@ module _ (s : SilenceWeighting) (ready from : ℕ) (ss : List ℕ) (ws : List Fl
 
   module _ (ps : List ℤ) where
     abbrev answer : Outcome Deltas
-    answer = brought s (places ss ws) (getDeltaWeights (places ss ws) room ready from (state_of ps s ss ws))
+    answer = brought s (places ss ws) (get_delta_weights (places ss ws) room ready from (state_of ps s ss ws))
 
     abbrev nothing : Deltas
     nothing = record { state = state_of ps s ss ws; deltas = [] }
 
     abbrev full : Deltas
-    full = deltasOf (state_of ps s ss ws) n from
+    full = deltas_of (state_of ps s ss ws) n from
 
-    answer-is : answer ≡ weighedFor (weightingWrong s.weight s.subsampling) (tooMany (places ss ws) s.frames) (ltb (2 ^ 32) ready) (ltb (2 ^ 32) from) (leb ready from) (tooMany (places ss ws) n) (ltb room (length (deltasOn w ss ws))) nothing full
-    unfolding brought getDeltaWeights state_of
-    answer-is = ap (λ (b : Bool). weighedFor (weightingWrong s.weight s.subsampling) (tooMany (places ss ws) s.frames) (ltb (2 ^ 32) ready) (ltb (2 ^ 32) from) (leb ready from) (tooMany (places ss ws) n) b nothing full)
-        (ap (λ d. ltb room (length d)) (deltas-told s n from ss ws ps))
+    answer_is : answer ≡ weighed_for (weighting_wrong s.weight s.subsampling) (too_many (places ss ws) s.frames) (ltb (2 ^ 32) ready) (ltb (2 ^ 32) from) (leb ready from) (too_many (places ss ws) n) (ltb room (length (deltas_on w ss ws))) nothing full
+    unfolding brought get_delta_weights state_of
+    answer_is = ap (λ (b : Bool). weighed_for (weighting_wrong s.weight s.subsampling) (too_many (places ss ws) s.frames) (ltb (2 ^ 32) ready) (ltb (2 ^ 32) from) (leb ready from) (too_many (places ss ws) n) b nothing full)
+        (ap (λ d. ltb room (length d)) (deltas_told s n from ss ws ps))
 
-    plan-says : Planned nothing full w (length (deltasOn w ss ws)) (Within s n ss ws fs ds w) plan answer
+    plan_says : Planned nothing full w (length (deltas_on w ss ws)) (Within s n ss ws fs ds w) plan answer
     unfolding plan_of
-    plan-says =
-        subst (λ (e : Outcome Deltas). Planned nothing full w (length (deltasOn w ss ws)) (Within s n ss ws fs ds w) plan e) (sym answer-is)
-        (planned (weightingWrong s.weight s.subsampling) (tooMany (places ss ws) s.frames) (ltb (2 ^ 32) ready) (ltb (2 ^ 32) from) (leb ready from) (tooMany (places ss ws) n) (ltb room (length (deltasOn w ss ws))) nothing full w (length (deltasOn w ss ws)) (Within s n ss ws fs ds w)
+    plan_says =
+        subst (λ (e : Outcome Deltas). Planned nothing full w (length (deltas_on w ss ws)) (Within s n ss ws fs ds w) plan e) (sym answer_is)
+        (planned (weighting_wrong s.weight s.subsampling) (too_many (places ss ws) s.frames) (ltb (2 ^ 32) ready) (ltb (2 ^ 32) from) (leb ready from) (too_many (places ss ws) n) (ltb room (length (deltas_on w ss ws))) nothing full w (length (deltas_on w ss ws)) (Within s n ss ws fs ds w)
         (λ a b. none_needed (places ss ws) ready from s.subsampling (fair s.weight s.subsampling a).0 (leb-true ready from b))
         (λ a b c d e. record {
-          sound = sound-window s n from ss ws a b d (ltb-false (2 ^ 32) from c);
-          store = (few-frames (places ss ws) n d).1;
-          list = (few-frames (places ss ws) s.frames b).1;
-          room = ltb-false room (length (deltasOn w ss ws)) e;
+          sound = sound_window s n from ss ws a b d (ltb-false (2 ^ 32) from c);
+          store = (few_frames (places ss ws) n d).1;
+          list = (few_frames (places ss ws) s.frames b).1;
+          room = ltb-false room (length (deltas_on w ss ws)) e;
         }))
 
-    says : (p : Plan) → plan ≡ p → Planned nothing full w (length (deltasOn w ss ws)) (Within s n ss ws fs ds w) p answer
-    says p e = subst (λ (q : Plan). Planned nothing full w (length (deltasOn w ss ws)) (Within s n ss ws fs ds w) q answer) e plan-says
+    says : (p : Plan) → plan ≡ p → Planned nothing full w (length (deltas_on w ss ws)) (Within s n ss ws fs ds w) p answer
+    says p e = subst (λ (q : Plan). Planned nothing full w (length (deltas_on w ss ws)) (Within s n ss ws fs ds w) q answer) e plan_says
 
-  pub refused-right : (k : ℕ) → plan ≡ Plan.Refused k → DeltasRight s ready from memory (Weighed.Refused k) memory
-  refused-right k e = record { answer = λ ps. sym (says ps (Plan.Refused k) e); kept = refl }
+  pub refused_right : (k : ℕ) → plan ≡ Plan.Refused k → DeltasRight s ready from memory (Weighed.Refused k) memory
+  refused_right k e = record { answer = λ ps. sym (says ps (Plan.Refused k) e); kept = refl }
 
   pub nothing_right : plan ≡ Plan.Nothing → DeltasRight s ready from memory (Weighed.Deltas s 0) memory
-  unfolding deltasIn
+  unfolding deltas_in
   nothing_right e = record { answer = λ ps. sym (says ps Plan.Nothing e); kept = ((refl, refl), (refl, refl)) }
 
   -- the window that is written
-  pub write-fits : (v : Window) (c : ℕ) → plan ≡ Plan.Write v c → Within s n ss ws fs ds v
-  write-fits v c e = let x = says [] (Plan.Write v c) e in subst (Within s n ss ws fs ds) (sym x.0.0) x.1.1
+  pub write_fits : (v : Window) (c : ℕ) → plan ≡ Plan.Write v c → Within s n ss ws fs ds v
+  write_fits v c e = let x = says [] (Plan.Write v c) e in subst (Within s n ss ws fs ds) (sym x.0.0) x.1.1
 
   module _ (f : Within s n ss ws fs ds w) (ss' : List ℕ) (ws' : List Float) (fs' : List ℕ) (ds' : List Float) (hs : ss' ≡ sets ss w.listed (replicate (w.total - w.listed) 0)) (h : Wrote w ss ws fs ds ws' fs' ds') where
-    written-answer : (ps : List ℤ)
-        → ◌≡◌ {A = Deltas} (record { state = state_of ps (record { weight = s.weight; subsampling = s.subsampling; frames = w.total }) ss' ws'; deltas = deltasIn (length (deltasOn w ss ws)) fs' ds' }) (full ps)
-    unfolding windowOf
-    written-answer ps =
+    written_answer : (ps : List ℤ)
+        → ◌≡◌ {A = Deltas} (record { state = state_of ps (record { weight = s.weight; subsampling = s.subsampling; frames = w.total }) ss' ws'; deltas = deltas_in (length (deltas_on w ss ws)) fs' ds' }) (full ps)
+    unfolding window_of
+    written_answer ps =
         ap₂ (λ (x : List ℕ × List Float) (y : List (ℕ × Float)). record { state = state_of ps (record { weight = s.weight; subsampling = s.subsampling; frames = w.total }) x.0 x.1; deltas = y })
         (ap₂ (λ (x : List ℕ) (y : List Float). (x, y)) hs h.weights)
-        (ap₂ (deltasIn (length (deltasOn w ss ws))) h.frames h.deltas ∙ read_back (deltasOn w ss ws) fs ds (omega (arith, f.room)) (omega (arith, f.room)))
-        ∙ sym (deltas-are s n from ss ws ps (omega (arith, f.store)) (omega (arith, f.store)) (omega (arith, f.list)) (omega (arith, f.list)))
+        (ap₂ (deltas_in (length (deltas_on w ss ws))) h.frames h.deltas ∙ read_back (deltas_on w ss ws) fs ds (omega (arith, f.room)) (omega (arith, f.room)))
+        ∙ sym (deltas_are_lem s n from ss ws ps (omega (arith, f.store)) (omega (arith, f.store)) (omega (arith, f.list)) (omega (arith, f.list)))
 
-    written-right : plan ≡ Plan.Write w (length (deltasOn w ss ws))
-        → DeltasRight s ready from memory (Weighed.Deltas (record { weight = s.weight; subsampling = s.subsampling; frames = w.total }) (length (deltasOn w ss ws))) (record { status = ss'; weights = ws'; frames = fs'; deltas = ds' })
-    unfolding windowOf
-    written-right e =
-        let ds₀ = deltasOn w ss ws in
+    written_right : plan ≡ Plan.Write w (length (deltas_on w ss ws))
+        → DeltasRight s ready from memory (Weighed.Deltas (record { weight = s.weight; subsampling = s.subsampling; frames = w.total }) (length (deltas_on w ss ws))) (record { status = ss'; weights = ws'; frames = fs'; deltas = ds' })
+    unfolding window_of
+    written_right e =
+        let ds₀ = deltas_on w ss ws in
         record {
-          answer = λ ps. ap ok (written-answer ps) ∙ sym (says ps (Plan.Write w (length ds₀)) e).1.0;
+          answer = λ ps. ap ok (written_answer ps) ∙ sym (says ps (Plan.Write w (length ds₀)) e).1.0;
           kept = (
             (
-              ap (drop w.total) hs ∙ drop-stored ss w.listed w.total 0 w.total (omega arith),
-              ap (drop w.total) h.weights ∙ drop-sets w.total ws w.begin (weightsOn w ss ws) (omega (arith, weights-length s n from ss ws)),
+              ap (drop w.total) hs ∙ drop_stored ss w.listed w.total 0 w.total (omega arith),
+              ap (drop w.total) h.weights ∙ drop_sets w.total ws w.begin (weights_on w ss ws) (omega (arith, weights-length s n from ss ws)),
             ),
             (
-              ap (drop (length ds₀)) h.frames ∙ drop-sets (length ds₀) fs 0 (firsts ds₀) (omega (arith, length-map ds₀ (λ (d : ℕ × Float). d.0))),
-              ap (drop (length ds₀)) h.deltas ∙ drop-sets (length ds₀) ds 0 (seconds ds₀) (omega (arith, length-map ds₀ (λ (d : ℕ × Float). d.1))),
+              ap (drop (length ds₀)) h.frames ∙ drop_sets (length ds₀) fs 0 (firsts ds₀) (omega (arith, length-map ds₀ (λ (d : ℕ × Float). d.0))),
+              ap (drop (length ds₀)) h.deltas ∙ drop_sets (length ds₀) ds 0 (seconds ds₀) (omega (arith, length-map ds₀ (λ (d : ℕ × Float). d.1))),
             ),
           );
         }
 
-  pub write-right : (v : Window) (c : ℕ) (ss' : List ℕ) (ws' : List Float) (fs' : List ℕ) (ds' : List Float) → plan ≡ Plan.Write v c
+  pub write_right : (v : Window) (c : ℕ) (ss' : List ℕ) (ws' : List Float) (fs' : List ℕ) (ds' : List Float) → plan ≡ Plan.Write v c
       → ss' ≡ sets ss v.listed (replicate (v.total - v.listed) 0) → Wrote v ss ws fs ds ws' fs' ds'
       → DeltasRight s ready from memory (Weighed.Deltas (record { weight = s.weight; subsampling = s.subsampling; frames = v.total }) c) (record { status = ss'; weights = ws'; frames = fs'; deltas = ds' })
-  write-right v c ss' ws' fs' ds' e =
+  write_right v c ss' ws' fs' ds' e =
       let x = says [] (Plan.Write v c) e in
       subst (λ (u : Window). ss' ≡ sets ss u.listed (replicate (u.total - u.listed) 0) → Wrote u ss ws fs ds ws' fs' ds'
       → DeltasRight s ready from memory (Weighed.Deltas (record { weight = s.weight; subsampling = s.subsampling; frames = u.total }) c) (record { status = ss'; weights = ws'; frames = fs'; deltas = ds' })) (sym x.0.0)
       (subst (λ (k : ℕ). ss' ≡ sets ss w.listed (replicate (w.total - w.listed) 0) → Wrote w ss ws fs ds ws' fs' ds'
       → DeltasRight s ready from memory (Weighed.Deltas (record { weight = s.weight; subsampling = s.subsampling; frames = w.total }) k) (record { status = ss'; weights = ws'; frames = fs'; deltas = ds' })) (sym x.0.1)
-      (λ hs h. written-right x.1.1 ss' ws' fs' ds' hs h (e ∙ ap₂ Plan.Write x.0.0 x.0.1)))
+      (λ hs h. written_right x.1.1 ss' ws' fs' ds' hs h (e ∙ ap₂ Plan.Write x.0.0 x.0.1)))

@@ -17,101 +17,101 @@ use Rattle.silence_weighting.specs.declared.SilenceWeighting.{SilenceWeighting}
 use Rattle.silence_weighting.specs.declared.Frame.{Frame}
 use Rattle.silence_weighting.specs.declared.Window.{Window}
 use Rattle.silence_weighting.specs.declared.Step.{Step}
-use Rattle.silence_weighting.specs.Parts.{infoIn, grownAt, weightOf, weightsAlong, framesFrom, weightsLeft, deltasLeft, stepAt, weightBefore, windowOf}
-use Rattle.silence_weighting.proofs.Runs.{range-next, range-done, length-range}
+use Rattle.silence_weighting.specs.Parts.{info_in, grown_at, weight_of, weights_along, frames_from, weights_left, deltas_left, step_at, weight_before, window_of}
+use Rattle.silence_weighting.proofs.Runs.{range_next, range_done, length_range}
 
 -- ---- the code's window and step
 
-abbrev windowWith : SilenceWeighting → (first begin : ℕ) → (previous : Float) → (all-unknown : Bool) → (total : ℕ) → Window
-windowWith s from b p u t = record { silence = s.weight; previous = p; unknown = u; subsampling = s.subsampling; first = from; begin = b; listed = s.frames; total = t }
+abbrev window_with : SilenceWeighting → (first begin : ℕ) → (previous : Float) → (all-unknown : Bool) → (total : ℕ) → Window
+window_with s from b p u t = record { silence = s.weight; previous = p; unknown = u; subsampling = s.subsampling; first = from; begin = b; listed = s.frames; total = t }
 
-pub window-is : (s : SilenceWeighting) (n from : ℕ) (ss : List ℕ) (ws : List Float) (b : ℕ) (p : Float) (i : Frame) (t : ℕ)
-    → b ≡ s.frames - 100 → p ≡ weightBefore s.weight ws b → infoIn i ≡ grownAt s.frames ss ws b → t ≡ max s.frames n
-    → ◌≡◌ {A = Window} (record { silence = s.weight; previous = p; unknown = not i.known; subsampling = s.subsampling; first = from; begin = b; listed = s.frames; total = t }) (windowOf s n from ss ws)
-unfolding windowOf
-window-is s n from ss ws b p i t hb hp hi ht =
-    ap (windowWith s from b p (not i.known)) ht
-    ∙ ap (λ (j : FrameInfo). windowWith s from b p (not j.known) (max s.frames n)) hi
-    ∙ ap (λ (q : Float). windowWith s from b q (not (grownAt s.frames ss ws b).known) (max s.frames n)) hp
-    ∙ ap (λ (c : ℕ). windowWith s from c (weightBefore s.weight ws c) (not (grownAt s.frames ss ws c).known) (max s.frames n)) hb
+pub window_is : (s : SilenceWeighting) (n from : ℕ) (ss : List ℕ) (ws : List Float) (b : ℕ) (p : Float) (i : Frame) (t : ℕ)
+    → b ≡ s.frames - 100 → p ≡ weight_before s.weight ws b → info_in i ≡ grown_at s.frames ss ws b → t ≡ max s.frames n
+    → ◌≡◌ {A = Window} (record { silence = s.weight; previous = p; unknown = not i.known; subsampling = s.subsampling; first = from; begin = b; listed = s.frames; total = t }) (window_of s n from ss ws)
+unfolding window_of
+window_is s n from ss ws b p i t hb hp hi ht =
+    ap (window_with s from b p (not i.known)) ht
+    ∙ ap (λ (j : FrameInfo). window_with s from b p (not j.known) (max s.frames n)) hi
+    ∙ ap (λ (q : Float). window_with s from b q (not (grown_at s.frames ss ws b).known) (max s.frames n)) hp
+    ∙ ap (λ (c : ℕ). window_with s from c (weight_before s.weight ws c) (not (grown_at s.frames ss ws c).known) (max s.frames n)) hb
 
 -- a step of a frame i that gets the weight v
-abbrev stepWith : Window → ℕ → FrameInfo → Float → Step
-stepWith w f i v = record { weight = v; delta = v ⊖ i.weight; times = cond (ne (v ⊖ i.weight) 0f || eqb (suc f) w.total) w.subsampling 0 }
+abbrev step_with : Window → ℕ → FrameInfo → Float → Step
+step_with w f i v = record { weight = v; delta = v ⊖ i.weight; times = cond (ne (v ⊖ i.weight) 0f || eqb (suc f) w.total) w.subsampling 0 }
 
 pub step_is : (w : Window) (ss : List ℕ) (ws : List Float) (p : Float) (f : ℕ) (i : Frame) (v : Float) (t : ℕ)
-    → infoIn i ≡ grownAt w.listed ss ws f → v ≡ weightOf w.silence w.unknown p (infoIn i)
+    → info_in i ≡ grown_at w.listed ss ws f → v ≡ weight_of w.silence w.unknown p (info_in i)
     → t ≡ cond (ne (v ⊖ i.weight) 0f || eqb (suc f) w.total) w.subsampling 0
-    → ◌≡◌ {A = Step} (record { weight = v; delta = v ⊖ i.weight; times = t }) (stepAt w ss ws p f)
-unfolding stepAt
+    → ◌≡◌ {A = Step} (record { weight = v; delta = v ⊖ i.weight; times = t }) (step_at w ss ws p f)
+unfolding step_at
 step_is w ss ws p f i v t e h k =
     ap (λ (n : ℕ). record { weight = v; delta = v ⊖ i.weight; times = n }) k
-    ∙ ap (stepWith w f (infoIn i)) h
-    ∙ ap (λ (j : FrameInfo). stepWith w f j (weightOf w.silence w.unknown p j)) e
+    ∙ ap (step_with w f (info_in i)) h
+    ∙ ap (λ (j : FrameInfo). step_with w f j (weight_of w.silence w.unknown p j)) e
 
 -- ---- what is left of the window
 
 -- what a step tells: its difference for each input frame
-abbrev pub toldAt : Window → ℕ → Step → List (ℕ × Float)
-toldAt w f t = map {B = ℕ × Float} (λ k. (w.first + f * w.subsampling + k, t.delta)) (range 0 t.times)
+abbrev pub told_at : Window → ℕ → Step → List (ℕ × Float)
+told_at w f t = map {B = ℕ × Float} (λ k. (w.first + f * w.subsampling + k, t.delta)) (range 0 t.times)
 
-told-cond : (w : Window) (f : ℕ) (v d : Float) (b : Bool)
-    → cond b (map {B = ℕ × Float} (λ k. (w.first + f * w.subsampling + k, d)) (range 0 w.subsampling)) [] ≡ toldAt w f (record { weight = v; delta = d; times = cond b w.subsampling 0 })
-told-cond w f v d true = refl
-told-cond w f v d false = refl
+told_cond : (w : Window) (f : ℕ) (v d : Float) (b : Bool)
+    → cond b (map {B = ℕ × Float} (λ k. (w.first + f * w.subsampling + k, d)) (range 0 w.subsampling)) [] ≡ told_at w f (record { weight = v; delta = d; times = cond b w.subsampling 0 })
+told_cond w f v d true = refl
+told_cond w f v d false = refl
 
 few : (b : Bool) (n : ℕ) → cond b n 0 ≤ n
 few true n = omega arith
 few false n = omega arith
 
 -- the last frame is the one with none behind it
-last-is : (f n : ℕ) → f < n → eqb (n - suc f) 0 ≡ eqb (suc f) n
-last-is f n h = case (either (eqb (suc f) n))
+last_is : (f n : ℕ) → f < n → eqb (n - suc f) 0 ≡ eqb (suc f) n
+last_is f n h = case (either (eqb (suc f) n))
     (λ e. let u : suc f ≡ n = eqb-true (suc f) n e in eq-eqb (n - suc f) 0 (omega arith) ∙ sym e)
     (λ e. let u : suc f ≡ n → ⊥ = eqb-false (suc f) n e in ne_eqb (n - suc f) 0 (λ z. u (omega arith)) ∙ sym e)
 
 module _ (w : Window) (ss : List ℕ) (ws : List Float) (p : Float) (f : ℕ) where
-  frames-next : f < w.total → framesFrom w ss ws f ≡ grownAt w.listed ss ws f ∷ framesFrom w ss ws (suc f)
-  frames-next h = rw (range-next f w.total h)
+  frames_next : f < w.total → frames_from w ss ws f ≡ grown_at w.listed ss ws f ∷ frames_from w ss ws (suc f)
+  frames_next h = rw (range_next f w.total h)
 
-  pub weights-next : f < w.total → weightsLeft w ss ws p f ≡ (stepAt w ss ws p f).weight ∷ weightsLeft w ss ws (stepAt w ss ws p f).weight (f + 1)
-  unfolding stepAt weightsAlong
-  weights-next h = rw (add-one, frames-next h)
+  pub weights_next : f < w.total → weights_left w ss ws p f ≡ (step_at w ss ws p f).weight ∷ weights_left w ss ws (step_at w ss ws p f).weight (f + 1)
+  unfolding step_at weights_along
+  weights_next h = rw (add-one, frames_next h)
 
-  pub deltas-next : f < w.total → deltasLeft w ss ws p f ≡ toldAt w f (stepAt w ss ws p f) ++ deltasLeft w ss ws (stepAt w ss ws p f).weight (f + 1)
-  unfolding stepAt weightsAlong
-  deltas-next h =
-      let i = grownAt w.listed ss ws f in
-      let v = weightOf w.silence w.unknown p i in
+  pub deltas_next : f < w.total → deltas_left w ss ws p f ≡ told_at w f (step_at w ss ws p f) ++ deltas_left w ss ws (step_at w ss ws p f).weight (f + 1)
+  unfolding step_at weights_along
+  deltas_next h =
+      let i = grown_at w.listed ss ws f in
+      let v = weight_of w.silence w.unknown p i in
       let d = v ⊖ i.weight in
-      rw (add-one, frames-next h, length-range (grownAt w.listed ss ws) (suc f) (w.total - suc f), last-is f w.total h)
-      (ap (λ (r : List (ℕ × Float)). r ++ deltasLeft w ss ws v (suc f)) (told-cond w f v d (ne d 0f || eqb (suc f) w.total)))
+      rw (add-one, frames_next h, length_range (grown_at w.listed ss ws) (suc f) (w.total - suc f), last_is f w.total h)
+      (ap (λ (r : List (ℕ × Float)). r ++ deltas_left w ss ws v (suc f)) (told_cond w f v d (ne d 0f || eqb (suc f) w.total)))
 
-  pub weights-done : w.total ≤ f → weightsLeft w ss ws p f ≡ []
-  unfolding weightsAlong
-  weights-done h = rw (range-done f w.total h)
+  pub weights_done : w.total ≤ f → weights_left w ss ws p f ≡ []
+  unfolding weights_along
+  weights_done h = rw (range_done f w.total h)
 
-  pub deltas-done : w.total ≤ f → deltasLeft w ss ws p f ≡ []
-  unfolding weightsAlong
-  deltas-done h = rw (range-done f w.total h)
+  pub deltas_done : w.total ≤ f → deltas_left w ss ws p f ≡ []
+  unfolding weights_along
+  deltas_done h = rw (range_done f w.total h)
 
   -- of a step t of the code: how often it is told, and what is left behind it
-  pub times-few : (t : Step) → t ≡ stepAt w ss ws p f → t.times ≤ w.subsampling
-  unfolding stepAt
-  times-few t e =
-      let i = grownAt w.listed ss ws f in
-      subst (λ (u : Step). u.times ≤ w.subsampling) (sym e) (few (ne (weightOf w.silence w.unknown p i ⊖ i.weight) 0f || eqb (suc f) w.total) w.subsampling)
+  pub times_few : (t : Step) → t ≡ step_at w ss ws p f → t.times ≤ w.subsampling
+  unfolding step_at
+  times_few t e =
+      let i = grown_at w.listed ss ws f in
+      subst (λ (u : Step). u.times ≤ w.subsampling) (sym e) (few (ne (weight_of w.silence w.unknown p i ⊖ i.weight) 0f || eqb (suc f) w.total) w.subsampling)
 
-  count-step : f < w.total → length (deltasLeft w ss ws p f) ≡ (stepAt w ss ws p f).times + length (deltasLeft w ss ws (stepAt w ss ws p f).weight (f + 1))
-  count-step h =
-      let t = stepAt w ss ws p f in
-      let l = length-range {A = ℕ × Float} (λ k. (w.first + f * w.subsampling + k, t.delta)) 0 t.times in
-      omega (arith, ap length (deltas-next h) ∙ length-append (toldAt w f t) (deltasLeft w ss ws t.weight (f + 1)))
+  count_step : f < w.total → length (deltas_left w ss ws p f) ≡ (step_at w ss ws p f).times + length (deltas_left w ss ws (step_at w ss ws p f).weight (f + 1))
+  count_step h =
+      let t = step_at w ss ws p f in
+      let l = length_range {A = ℕ × Float} (λ k. (w.first + f * w.subsampling + k, t.delta)) 0 t.times in
+      omega (arith, ap length (deltas_next h) ∙ length-append (told_at w f t) (deltas_left w ss ws t.weight (f + 1)))
 
-  pub count_next : (t : Step) → t ≡ stepAt w ss ws p f → f < w.total → length (deltasLeft w ss ws p f) ≡ t.times + length (deltasLeft w ss ws t.weight (f + 1))
-  count_next t e h = subst (λ (u : Step). length (deltasLeft w ss ws p f) ≡ u.times + length (deltasLeft w ss ws u.weight (f + 1))) (sym e) (count-step h)
+  pub count_next : (t : Step) → t ≡ step_at w ss ws p f → f < w.total → length (deltas_left w ss ws p f) ≡ t.times + length (deltas_left w ss ws t.weight (f + 1))
+  count_next t e h = subst (λ (u : Step). length (deltas_left w ss ws p f) ≡ u.times + length (deltas_left w ss ws u.weight (f + 1))) (sym e) (count_step h)
 
 -- a step reads no frame but its own
-pub step_same : (w : Window) (ss : List ℕ) (ws ws' : List Float) (p : Float) (f : ℕ) → get_or ws' f nan ≡ get_or ws f nan → stepAt w ss ws' p f ≡ stepAt w ss ws p f
-unfolding stepAt grownAt
+pub step_same : (w : Window) (ss : List ℕ) (ws ws' : List Float) (p : Float) (f : ℕ) → get_or ws' f nan ≡ get_or ws f nan → step_at w ss ws' p f ≡ step_at w ss ws p f
+unfolding step_at grown_at
 step_same w ss ws ws' p f e = rw e

@@ -6,7 +6,7 @@ use Rattle.std.specs.Float.Ieee.{ne}
 use Rattle.lists.specs.Lists.{range}
 use Rattle.model.specs.Basics.{◌⊖◌, 0f, 1f}
 use Rattle.model.specs.Reads.{Segment}
-use Rattle.model.specs.Silence.{FrameInfo, unknown, isSilence, deltasFrom, weightingWrong, tooMany, ceilDiv}
+use Rattle.model.specs.Silence.{FrameInfo, unknown, is_silence, deltas_from, weighting_wrong, too_many, ceil_div}
 use Rattle.silence_weighting.specs.declared.SilenceWeighting.{SilenceWeighting}
 use Rattle.silence_weighting.specs.declared.Frame.{Frame}
 use Rattle.silence_weighting.specs.declared.Window.{Window}
@@ -17,50 +17,50 @@ use Rattle.silence_weighting.specs.State.{frame_at, places}
 -- ---- the traceback
 
 -- the status of the frames of a phone
-unfoldable pub statusOf : List ℤ → (phone : ℤ) → ℕ
-statusOf ps p = cond (isSilence ps p) 2 1
+unfoldable pub status_of : List ℤ → (phone : ℤ) → ℕ
+status_of ps p = cond (is_silence ps p) 2 1
 
 -- the segments stored one after the other, each over its frames below n
-unfoldable pub toldTo : List ℤ → List Segment → (n : ℕ) → (status : List ℕ) → List ℕ
-toldTo ps [] n ss = ss
-toldTo ps (s ∷ rest) n ss = toldTo ps rest n (sets ss s.start (replicate (min s.end n - s.start) (statusOf ps s.phone)))
+unfoldable pub told_to : List ℤ → List Segment → (n : ℕ) → (status : List ℕ) → List ℕ
+told_to ps [] n ss = ss
+told_to ps (s ∷ rest) n ss = told_to ps rest n (sets ss s.start (replicate (min s.end n - s.start) (status_of ps s.phone)))
 
 -- ---- the window
 
 -- the definition's frame
-abbrev pub infoIn : Frame → FrameInfo
-infoIn i = record { known = i.known; silence = i.silence; weight = i.weight }
+abbrev pub info_in : Frame → FrameInfo
+info_in i = record { known = i.known; silence = i.silence; weight = i.weight }
 
 -- frame f of the grown list: those behind the first `listed` are unknown
-unfoldable pub grownAt : (listed : ℕ) → (status : List ℕ) → (weights : List Float) → ℕ → FrameInfo
-grownAt listed ss ws f = cond (ltb f listed) (frame_at ss ws f) unknown
+unfoldable pub grown_at : (listed : ℕ) → (status : List ℕ) → (weights : List Float) → ℕ → FrameInfo
+grown_at listed ss ws f = cond (ltb f listed) (frame_at ss ws f) unknown
 
 -- a frame's weight; where the window's first frame is unknown it is the one before, known or not
-unfoldable pub weightOf : (silence : Float) → (all-unknown : Bool) → (previous : Float) → FrameInfo → Float
-weightOf sil u p i = cond i.known (cond u p (cond i.silence sil 1f)) p
+unfoldable pub weight_of : (silence : Float) → (all-unknown : Bool) → (previous : Float) → FrameInfo → Float
+weight_of sil u p i = cond i.known (cond u p (cond i.silence sil 1f)) p
 
 -- the weights of frames one after the other
-unfoldable pub weightsAlong : (silence : Float) → (all-unknown : Bool) → (previous : Float) → List FrameInfo → List Float
-weightsAlong sil u p [] = []
-weightsAlong sil u p (i ∷ is) = weightOf sil u p i ∷ weightsAlong sil u (weightOf sil u p i) is
+unfoldable pub weights_along : (silence : Float) → (all-unknown : Bool) → (previous : Float) → List FrameInfo → List Float
+weights_along sil u p [] = []
+weights_along sil u p (i ∷ is) = weight_of sil u p i ∷ weights_along sil u (weight_of sil u p i) is
 
 -- the frames from f to the window's end
-abbrev pub framesFrom : Window → (status : List ℕ) → (weights : List Float) → ℕ → List FrameInfo
-framesFrom w ss ws f = map (grownAt w.listed ss ws) (range f (w.total - f))
+abbrev pub frames_from : Window → (status : List ℕ) → (weights : List Float) → ℕ → List FrameInfo
+frames_from w ss ws f = map (grown_at w.listed ss ws) (range f (w.total - f))
 
 -- their weights, and their differences, where the weight before f is p
-abbrev pub weightsLeft : Window → (status : List ℕ) → (weights : List Float) → (p : Float) → ℕ → List Float
-weightsLeft w ss ws p f = weightsAlong w.silence w.unknown p (framesFrom w ss ws f)
+abbrev pub weights_left : Window → (status : List ℕ) → (weights : List Float) → (p : Float) → ℕ → List Float
+weights_left w ss ws p f = weights_along w.silence w.unknown p (frames_from w ss ws f)
 
-abbrev pub deltasLeft : Window → (status : List ℕ) → (weights : List Float) → (p : Float) → ℕ → List (ℕ × Float)
-deltasLeft w ss ws p f = deltasFrom w.subsampling w.first f (framesFrom w ss ws f) (weightsLeft w ss ws p f)
+abbrev pub deltas_left : Window → (status : List ℕ) → (weights : List Float) → (p : Float) → ℕ → List (ℕ × Float)
+deltas_left w ss ws p f = deltas_from w.subsampling w.first f (frames_from w ss ws f) (weights_left w ss ws p f)
 
 -- the whole window's
-unfoldable pub weightsOn : Window → (status : List ℕ) → (weights : List Float) → List Float
-weightsOn w ss ws = weightsLeft w ss ws w.previous w.begin
+unfoldable pub weights_on : Window → (status : List ℕ) → (weights : List Float) → List Float
+weights_on w ss ws = weights_left w ss ws w.previous w.begin
 
-unfoldable pub deltasOn : Window → (status : List ℕ) → (weights : List Float) → List (ℕ × Float)
-deltasOn w ss ws = deltasLeft w ss ws w.previous w.begin
+unfoldable pub deltas_on : Window → (status : List ℕ) → (weights : List Float) → List (ℕ × Float)
+deltas_on w ss ws = deltas_left w ss ws w.previous w.begin
 
 -- a window within its memory, whose numbers all fit
 pub record Sound (w : Window) (ss : List ℕ) (ws : List Float) : Type 0 where
@@ -74,30 +74,30 @@ pub record Sound (w : Window) (ss : List ℕ) (ws : List Float) : Type 0 where
 
 -- the window's weights and differences, written
 pub record Wrote (w : Window) (ss : List ℕ) (ws : List Float) (fs : List ℕ) (ds : List Float) (ws' : List Float) (fs' : List ℕ) (ds' : List Float) : Type 0 where
-  pub weights : ws' ≡ sets ws w.begin (weightsOn w ss ws)
-  pub frames : fs' ≡ sets fs 0 (map (λ (d : ℕ × Float). d.0) (deltasOn w ss ws))
-  pub deltas : ds' ≡ sets ds 0 (map (λ (d : ℕ × Float). d.1) (deltasOn w ss ws))
+  pub weights : ws' ≡ sets ws w.begin (weights_on w ss ws)
+  pub frames : fs' ≡ sets fs 0 (map (λ (d : ℕ × Float). d.0) (deltas_on w ss ws))
+  pub deltas : ds' ≡ sets ds 0 (map (λ (d : ℕ × Float). d.1) (deltas_on w ss ws))
 
 -- frame f of the window, where the weight before it is p
-unfoldable pub stepAt : Window → (status : List ℕ) → (weights : List Float) → (p : Float) → ℕ → Step
-stepAt w ss ws p f =
-    let i = grownAt w.listed ss ws f in
-    let v = weightOf w.silence w.unknown p i in
+unfoldable pub step_at : Window → (status : List ℕ) → (weights : List Float) → (p : Float) → ℕ → Step
+step_at w ss ws p f =
+    let i = grown_at w.listed ss ws f in
+    let v = weight_of w.silence w.unknown p i in
     let d = v ⊖ i.weight in
     record { weight = v; delta = d; times = cond (ne d 0f || eqb (suc f) w.total) w.subsampling 0 }
 
 -- the weight of the frame before the window, or of silence where there is none
-unfoldable pub weightBefore : (silence : Float) → (weights : List Float) → (begin : ℕ) → Float
-weightBefore sil ws begin = cond (eqb begin 0) sil (get_or ws (begin - 1) nan)
+unfoldable pub weight_before : (silence : Float) → (weights : List Float) → (begin : ℕ) → Float
+weight_before sil ws begin = cond (eqb begin 0) sil (get_or ws (begin - 1) nan)
 
 -- the window of a state, where n frames are needed
-unfoldable pub windowOf : SilenceWeighting → (n first : ℕ) → (status : List ℕ) → (weights : List Float) → Window
-windowOf s n from ss ws =
+unfoldable pub window_of : SilenceWeighting → (n first : ℕ) → (status : List ℕ) → (weights : List Float) → Window
+window_of s n from ss ws =
     let begin = s.frames - 100 in
     record {
       silence = s.weight;
-      previous = weightBefore s.weight ws begin;
-      unknown = not (grownAt s.frames ss ws begin).known;
+      previous = weight_before s.weight ws begin;
+      unknown = not (grown_at s.frames ss ws begin).known;
       subsampling = s.subsampling;
       first = from;
       begin = begin;
@@ -112,13 +112,13 @@ pick false a b = b
 -- what `get_delta_weights` is to do: refuse, or nothing, or write a window's differences
 unfoldable pub plan_of : SilenceWeighting → (ready first room : ℕ) → (status : List ℕ) → (weights : List Float) → Plan
 plan_of s ready from room ss ws =
-    let n = ceilDiv (ready - from) s.subsampling in
-    let w = windowOf s n from ss ws in
-    pick (weightingWrong s.weight s.subsampling) (Plan.Refused 7)
-    (pick (tooMany (places ss ws) s.frames) (Plan.Refused 10)
+    let n = ceil_div (ready - from) s.subsampling in
+    let w = window_of s n from ss ws in
+    pick (weighting_wrong s.weight s.subsampling) (Plan.Refused 7)
+    (pick (too_many (places ss ws) s.frames) (Plan.Refused 10)
     (pick (ltb (2 ^ 32) ready) (Plan.Refused 10)
     (pick (ltb (2 ^ 32) from) (Plan.Refused 10)
     (pick (leb ready from) Plan.Nothing
-    (pick (tooMany (places ss ws) n) (Plan.Refused 10)
-    (pick (ltb room (length (deltasOn w ss ws))) (Plan.Refused 11)
-    (Plan.Write w (length (deltasOn w ss ws)))))))))
+    (pick (too_many (places ss ws) n) (Plan.Refused 10)
+    (pick (ltb room (length (deltas_on w ss ws))) (Plan.Refused 11)
+    (Plan.Write w (length (deltas_on w ss ws)))))))))

@@ -11,23 +11,23 @@ abbrev pub frame_at : (status : List ℕ) → (weights : List Float) → ℕ →
 frame_at ss ws k = record { known = not (eqb (get_or ss k 0) 0); silence = eqb (get_or ss k 0) 2; weight = get_or ws k nan }
 
 -- the first n frames
-unfoldable pub infoOf : ℕ → (status : List ℕ) → (weights : List Float) → List FrameInfo
-infoOf n ss ws = map (frame_at ss ws) (range 0 n)
+unfoldable pub info_of : ℕ → (status : List ℕ) → (weights : List Float) → List FrameInfo
+info_of n ss ws = map (frame_at ss ws) (range 0 n)
 
 -- the definition's state, of the silence phones, the struct and the frame list's memory
 unfoldable pub state_of : List ℤ → SilenceWeighting → (status : List ℕ) → (weights : List Float) → Weighting
-state_of ps s ss ws = record { phones = ps; weight = s.weight; subsampling = s.subsampling; info = infoOf s.frames ss ws }
+state_of ps s ss ws = record { phones = ps; weight = s.weight; subsampling = s.subsampling; info = info_of s.frames ss ws }
 
 -- the store holds the frames that fit both slices
 abbrev pub places : (status : List ℕ) → (weights : List Float) → ℕ
 places ss ws = min (length ss) (length ws)
 
-abbrev pub segmentAt : (phones : List ℤ) → (starts ends : List ℕ) → ℕ → Segment
-segmentAt ps ss es k = record { phone = get_or ps k (pos 0); start = get_or ss k 0; end = get_or es k 0 }
+abbrev pub segment_at : (phones : List ℤ) → (starts ends : List ℕ) → ℕ → Segment
+segment_at ps ss es k = record { phone = get_or ps k (pos 0); start = get_or ss k 0; end = get_or es k 0 }
 
 -- as many segments as all three slices hold
-abbrev pub segmentCount : (phones : List ℤ) → (starts ends : List ℕ) → ℕ
-segmentCount ps ss es = min (length ps) (min (length ss) (length es))
+abbrev pub segment_count : (phones : List ℤ) → (starts ends : List ℕ) → ℕ
+segment_count ps ss es = min (length ps) (min (length ss) (length es))
 
-unfoldable pub segmentsOf : (phones : List ℤ) → (starts ends : List ℕ) → List Segment
-segmentsOf ps ss es = map (segmentAt ps ss es) (range 0 (segmentCount ps ss es))
+unfoldable pub segments_of : (phones : List ℤ) → (starts ends : List ℕ) → List Segment
+segments_of ps ss es = map (segment_at ps ss es) (range 0 (segment_count ps ss es))

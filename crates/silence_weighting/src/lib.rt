@@ -4,10 +4,10 @@
 ghost use Rattle.std.specs.Prelude.{◌≡◌, false, reverse, ◌+◌, ◌-◌, ◌≤◌, ◌<◌, ◌^◌, min, max, length, replicate};
 ghost use Rattle.std.proofs.lemmas.List.Edits.{sets};
 ghost use Rattle.lists.specs.Lists.{range};
-ghost use Rattle.model.specs.Silence.{weightingWrong, tooMany, isSilence, badSegments, trailing};
-ghost use Rattle.silence_weighting.specs.State.{segmentCount, segmentsOf};
+ghost use Rattle.model.specs.Silence.{weighting_wrong, too_many, is_silence, bad_segments, trailing};
+ghost use Rattle.silence_weighting.specs.State.{segment_count, segments_of};
 ghost use Rattle.silence_weighting.specs.Answers.{NewRight, ActiveRight, TracebackRight, DeltasRight, TrailingRight};
-ghost use Rattle.silence_weighting.specs.Parts.{statusOf, toldTo, weightBefore, infoIn, grownAt, weightOf, stepAt, deltasOn, windowOf, plan_of, Wrote, Sound};
+ghost use Rattle.silence_weighting.specs.Parts.{status_of, told_to, weight_before, info_in, grown_at, weight_of, step_at, deltas_on, window_of, plan_of, Wrote, Sound};
 
 // The window begins this many frames before the list's end.
 const WINDOW: usize = 100;
@@ -101,7 +101,7 @@ fn larger(a: usize, b: usize) -> usize
 
 // 7: a subsampling outside 1 to 16, or a weight that is not tame.
 fn settings_wrong(weight: f32, subsampling: u32) -> bool
-    ensures { result ≡ weightingWrong weight subsampling }
+    ensures { result ≡ weighting_wrong weight subsampling }
 {
     if subsampling < 1 {
         return true;
@@ -114,7 +114,7 @@ fn settings_wrong(weight: f32, subsampling: u32) -> bool
 
 // 10: more frames than 65,536, or than the store holds.
 fn too_many(store: usize, frames: usize) -> bool
-    ensures { result ≡ tooMany store frames }
+    ensures { result ≡ too_many store frames }
 {
     if refusals::MAX_SILENCE_FRAMES < frames {
         return true;
@@ -124,7 +124,7 @@ fn too_many(store: usize, frames: usize) -> bool
 
 // Whether the phone is one of the silence phones.
 fn is_silence(silence_phones: &[i32], phone: i32) -> bool
-    ensures { result ≡ isSilence silence_phones.now phone }
+    ensures { result ≡ is_silence silence_phones.now phone }
 {
     let mut i = 0;
     while i < silence_phones.len() {
@@ -138,7 +138,7 @@ fn is_silence(silence_phones: &[i32], phone: i32) -> bool
 
 // The status of the frames of a phone.
 fn status_of(silence_phones: &[i32], phone: i32) -> u32
-    ensures { result ≡ statusOf silence_phones.now phone }
+    ensures { result ≡ status_of silence_phones.now phone }
 {
     if is_silence(silence_phones, phone) {
         return 2;
@@ -148,14 +148,14 @@ fn status_of(silence_phones: &[i32], phone: i32) -> u32
 
 // As many segments as all three slices hold.
 fn segment_count(phones: &[i32], starts: &[u32], ends: &[u32]) -> usize
-    ensures { result ≡ segmentCount phones.now starts.now ends.now }
+    ensures { result ≡ segment_count phones.now starts.now ends.now }
 {
     smaller(phones.len(), smaller(starts.len(), ends.len()))
 }
 
 // 10: over 65,536 segments, or one that ends before its start or past 65,536.
 fn bad_segments(phones: &[i32], starts: &[u32], ends: &[u32]) -> bool
-    ensures { result ≡ badSegments (segmentsOf phones.now starts.now ends.now) }
+    ensures { result ≡ bad_segments (segments_of phones.now starts.now ends.now) }
 {
     let count = segment_count(phones, starts, ends);
     if refusals::MAX_SEGMENTS < count {
@@ -220,7 +220,7 @@ fn tell_segments(
     status: &mut [u32],
 )
     requires { decoded ≤ length status.old }
-    ensures { status.new ≡ toldTo silence_phones.now (segmentsOf phones.now starts.now ends.now) decoded status.old }
+    ensures { status.new ≡ told_to silence_phones.now (segments_of phones.now starts.now ends.now) decoded status.old }
 {
     let count = segment_count(phones, starts, ends);
     let mut k = 0;
@@ -239,7 +239,7 @@ fn tell_segments(
 // Frame f of the list, or an unknown one where the list is shorter.
 fn frame_at(status: &[u32], weights: &[f32], listed: usize, f: usize) -> Frame
     requires { (listed ≤ length status.now) × (listed ≤ length weights.now) }
-    ensures { infoIn result ≡ grownAt listed status.now weights.now f }
+    ensures { info_in result ≡ grown_at listed status.now weights.now f }
 {
     if f < listed {
         Frame {
@@ -269,7 +269,7 @@ fn window_begin(listed: usize) -> usize
 // The weight of the frame before the window, or of silence where there is none.
 fn weight_before(silence: f32, weights: &[f32], begin: usize) -> f32
     requires { begin ≤ length weights.now }
-    ensures { result ≡ weightBefore silence weights.now begin }
+    ensures { result ≡ weight_before silence weights.now begin }
 {
     if begin == 0 {
         return silence;
@@ -279,7 +279,7 @@ fn weight_before(silence: f32, weights: &[f32], begin: usize) -> f32
 
 // The weight that a frame gets, where the frame before it has `previous`.
 fn weight_of(w: Window, previous: f32, i: Frame) -> f32
-    ensures { result ≡ weightOf w.silence w.unknown previous (infoIn i) }
+    ensures { result ≡ weight_of w.silence w.unknown previous (info_in i) }
 {
     if i.known {
         if w.unknown {
@@ -297,7 +297,7 @@ fn weight_of(w: Window, previous: f32, i: Frame) -> f32
 fn step_at(w: Window, status: &[u32], weights: &[f32], previous: f32, f: usize) -> Step
     requires sound { Sound w status.now weights.now }
     requires f_lt_total { f < w.total }
-    ensures { result ≡ stepAt w status.now weights.now previous f }
+    ensures { result ≡ step_at w status.now weights.now previous f }
 {
     let i = frame_at(status, weights, w.listed, f);
     let weight = weight_of(w, previous, i);
@@ -326,7 +326,7 @@ fn step_at(w: Window, status: &[u32], weights: &[f32], previous: f32, f: usize) 
 // How many differences the window gives.
 fn count_deltas(w: Window, status: &[u32], weights: &[f32]) -> usize
     requires { Sound w status.now weights.now }
-    ensures { result ≡ length (deltasOn w status.now weights.now) }
+    ensures { result ≡ length (deltas_on w status.now weights.now) }
 {
     let mut count = 0;
     let mut previous = w.previous;
@@ -349,7 +349,7 @@ fn write_deltas(
     deltas: &mut [f32],
 )
     requires sound { Sound w status.now weights.old }
-    requires weights_in_bounds { (length (deltasOn w status.now weights.old) ≤ length frames.old) × (length (deltasOn w status.now weights.old) ≤ length deltas.old) }
+    requires weights_in_bounds { (length (deltas_on w status.now weights.old) ≤ length frames.old) × (length (deltas_on w status.now weights.old) ≤ length deltas.old) }
     ensures { Wrote w status.now weights.old frames.old deltas.old weights.new frames.new deltas.new }
 {
     let mut at = 0;
@@ -368,8 +368,8 @@ fn write_deltas(
 
 // The silence at the end of good segments, counted from the last.
 fn trailing_frames(silence_phones: &[i32], phones: &[i32], starts: &[u32], ends: &[u32]) -> u64
-    requires { badSegments (segmentsOf phones.now starts.now ends.now) ≡ false }
-    ensures { result ≡ trailing silence_phones.now (reverse (segmentsOf phones.now starts.now ends.now)) }
+    requires { bad_segments (segments_of phones.now starts.now ends.now) ≡ false }
+    ensures { result ≡ trailing silence_phones.now (reverse (segments_of phones.now starts.now ends.now)) }
 {
     let mut n: u64 = 0;
     let mut i = segment_count(phones, starts, ends);
@@ -466,7 +466,7 @@ impl SilenceWeighting {
     // The window of a call that needs so many frames.
     fn window(self, needed: usize, first: u64, status: &[u32], weights: &[f32]) -> Window
         requires { (self.frames ≤ length status.now) × (self.frames ≤ length weights.now) }
-        ensures { result ≡ windowOf self needed first status.now weights.now }
+        ensures { result ≡ window_of self needed first status.now weights.now }
     {
         let listed = self.frames as usize;
         let begin = window_begin(listed);

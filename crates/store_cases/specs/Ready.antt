@@ -11,8 +11,8 @@ Lent s = Room s 32768
 
 pub record Ready (s : Store) (tk : List ℕ) (used cap places : ℕ) : Type 0 where
   pub few : used ≤ cap
-  pub cap-few : cap ≤ 32768
-  pub places-few : places ≤ 16
+  pub cap_few : cap ≤ 32768
+  pub places_few : places ≤ 16
   pub histories : ℕ → History
   pub stands : Stands s used histories
   pub held : (p : ℕ) → p < places → held_at tk p ≤ suc used

@@ -45,8 +45,8 @@ pub record Old (b n cap : ℕ) (m : Lent) (done : Table) : Type 0 where
   pub finished : Shown h used m.tokens m.sums (1 - b) n done
 
 -- stores that are the same stand for the same
-pub rep-as : {b n : ℕ} (m m' : Lent) {used x : ℕ} {p : Path} {done going : Table} {fresh : ℕ} → m' ≡ m → Rep b n m used x p done going fresh → Rep b n m' used x p done going fresh
-rep-as {b} {n} m m' {used} {x} {p} {done} {going} {fresh} e = subst (λ (z : Lent). Rep b n z used x p done going fresh) (sym e)
+pub rep_as : {b n : ℕ} (m m' : Lent) {used x : ℕ} {p : Path} {done going : Table} {fresh : ℕ} → m' ≡ m → Rep b n m used x p done going fresh → Rep b n m' used x p done going fresh
+rep_as {b} {n} m m' {used} {x} {p} {done} {going} {fresh} e = subst (λ (z : Lent). Rep b n z used x p done going fresh) (sym e)
 
 -- stores of the same lengths have the same places
 pub room_as : (rs rs' : List ℕ) (ls ls' : List ℤ) (gs gs' : List Float) {cap : ℕ} → length rs' ≡ length rs → length ls' ≡ length ls → length gs' ≡ length gs → Room (store rs ls gs) cap → Room (store rs' ls' gs') cap
@@ -60,11 +60,11 @@ pub record Lens (m m' : Lent) : Type 0 where
   pub labels : length m'.labels ≡ length m.labels
   pub gaps : length m'.gaps ≡ length m.gaps
 
-pub lens-self : (m : Lent) → Lens m m
-lens-self m = record { tokens = refl; sums = refl; records = refl; labels = refl; gaps = refl }
+pub lens_self : (m : Lent) → Lens m m
+lens_self m = record { tokens = refl; sums = refl; records = refl; labels = refl; gaps = refl }
 
-pub lens-then : {m m' m'' : Lent} → Lens m m' → Lens m' m'' → Lens m m''
-lens-then a b = record { tokens = b.tokens ∙ a.tokens; sums = b.sums ∙ a.sums; records = b.records ∙ a.records; labels = b.labels ∙ a.labels; gaps = b.gaps ∙ a.gaps }
+pub lens_then : {m m' m'' : Lent} → Lens m m' → Lens m' m'' → Lens m m''
+lens_then a b = record { tokens = b.tokens ∙ a.tokens; sums = b.sums ∙ a.sums; records = b.records ∙ a.records; labels = b.labels ∙ a.labels; gaps = b.gaps ∙ a.gaps }
 
 -- one table between calls, as the reads have it
 pub record Finished (b n : ℕ) (m : Lent) (used : ℕ) (ts : Table) : Type 0 where

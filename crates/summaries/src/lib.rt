@@ -5,8 +5,8 @@ ghost use Rattle.std.specs.Prelude.{◌≡◌, true, ◌||◌, cond, ◌+◌, �
 ghost use Rattle.model.specs.Basics.{nonzero};
 ghost use Rattle.joins.specs.Walk.{Chains};
 ghost use Rattle.histories.specs.Reading.{SameIs};
-ghost use Rattle.summaries.specs.Summed.{key_at, skipAt, joinAt, end_at, Skips, SummedTo, Summed};
-ghost use Rattle.summaries.specs.Key.{keyOver};
+ghost use Rattle.summaries.specs.Summed.{key_at, skip_at, join_at, end_at, Skips, SummedTo, Summed};
+ghost use Rattle.summaries.specs.Key.{key_over};
 
 use histories::Hashed;
 
@@ -28,7 +28,7 @@ pub fn key_at(history_keys: &[u64], r: u32, to_join: bool) -> u64
 // The first record from it down that has a word or is a join, 0 for none.
 pub fn skip_at(history_skips: &[u32], r: u32) -> u32
     requires { r * 2 ≤ length history_skips.now }
-    ensures { result ≡ skipAt history_skips.now r }
+    ensures { result ≡ skip_at history_skips.now r }
 {
     if r == 0 {
         return 0;
@@ -39,7 +39,7 @@ pub fn skip_at(history_skips: &[u32], r: u32) -> u32
 // Its newest join, 0 for none.
 fn join_at(history_skips: &[u32], r: u32) -> u32
     requires { r * 2 ≤ length history_skips.now }
-    ensures { result ≡ joinAt history_skips.now r }
+    ensures { result ≡ join_at history_skips.now r }
 {
     if r == 0 {
         return 0;
@@ -60,7 +60,7 @@ fn end_at(history_skips: &[u32], r: u32, to_join: bool) -> u32
 
 // A key with one more word, newer than all of its words; 0 is none.
 fn key_over(key: u64, word: i32) -> u64
-    ensures { result ≡ keyOver key word }
+    ensures { result ≡ key_over key word }
 {
     // Of a key only the hash is needed.
     let below = Hashed {
@@ -75,7 +75,7 @@ fn key_over(key: u64, word: i32) -> u64
 // The key to the newest join of record r, which is not in the table yet: a join ends the reading, with its own number. `prev` is the record before it.
 fn key_from(history_keys: &[u64], r: u32, prev: u32, word: i32, joined: bool) -> u64
     requires { prev * 2 ≤ length history_keys.now }
-    ensures { result ≡ cond joined r (keyOver (key_at history_keys.now true prev) word) }
+    ensures { result ≡ cond joined r (key_over (key_at history_keys.now true prev) word) }
 {
     if joined {
         return r as u64;
@@ -86,7 +86,7 @@ fn key_from(history_keys: &[u64], r: u32, prev: u32, word: i32, joined: bool) ->
 // Its skip: itself where it has a word or is a join.
 fn skip_from(history_skips: &[u32], r: u32, prev: u32, word: i32, joined: bool) -> u32
     requires { prev * 2 ≤ length history_skips.now }
-    ensures { result ≡ cond (nonzero word || joined) r (skipAt history_skips.now prev) }
+    ensures { result ≡ cond (nonzero word || joined) r (skip_at history_skips.now prev) }
 {
     if word != 0 {
         return r;
@@ -100,7 +100,7 @@ fn skip_from(history_skips: &[u32], r: u32, prev: u32, word: i32, joined: bool) 
 // Its newest join: itself where it is one.
 fn join_from(history_skips: &[u32], r: u32, prev: u32, joined: bool) -> u32
     requires { prev * 2 ≤ length history_skips.now }
-    ensures { result ≡ cond joined r (joinAt history_skips.now prev) }
+    ensures { result ≡ cond joined r (join_at history_skips.now prev) }
 {
     if joined {
         return r;

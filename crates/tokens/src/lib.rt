@@ -4,7 +4,7 @@
 // Sixteen states make a block, and the marks of block k stand at state k: one bit for each of its states that is active, and sixteen bits up one for each that
 // was requeued. So a table is emptied block by block, and a pass over the active states skips the blocks that have none.
 ghost use Rattle.std.specs.Prelude.{◌≡◌, ◌+◌, ◌-◌, ◌*◌, ◌≤◌, ◌<◌, ltb, length};
-ghost use Rattle.tokens.specs.Layout.{place_in, activeIn, requeuedIn, bit_at, held_at, requeuedAt, costAt, cell_at, tokenOf, marked, TokenPut, Cleared, Requeued, FirstBit, NextBlock, NextActive};
+ghost use Rattle.tokens.specs.Layout.{place_in, active_in, requeued_in, bit_at, held_at, requeued_at, cost_at, cell_at, token_of, marked, TokenPut, Cleared, Requeued, FirstBit, NextBlock, NextActive};
 
 // A token: its two sums, its newest record (0 for none), its phone and its place in the order of making.
 #[derive(Drop)]
@@ -21,7 +21,7 @@ pub struct Token {
 // The marks of a block's active states.
 fn active_in(tokens: &[u32], side: u32, block: u32) -> u32
     requires { place_in side block * 4 + 4 ≤ length tokens.now }
-    ensures { result ≡ activeIn tokens.now (place_in side block) }
+    ensures { result ≡ active_in tokens.now (place_in side block) }
 {
     let p = block as usize * 2 + side as usize;
     tokens[p * 4 + 3] % 65536
@@ -30,7 +30,7 @@ fn active_in(tokens: &[u32], side: u32, block: u32) -> u32
 // The marks of a block's requeued states.
 fn requeued_in(tokens: &[u32], side: u32, block: u32) -> u32
     requires { place_in side block * 4 + 4 ≤ length tokens.now }
-    ensures { result ≡ requeuedIn tokens.now (place_in side block) }
+    ensures { result ≡ requeued_in tokens.now (place_in side block) }
 {
     let p = block as usize * 2 + side as usize;
     tokens[p * 4 + 3] / 65536
@@ -84,7 +84,7 @@ pub fn has_token(tokens: &[u32], place: u32) -> bool
 // The cost of the token in a place.
 pub fn cost_at(sums: &[f32], side: u32, s: u32) -> f32
     requires { (side ≤ 1) × (s * 4 + 4 ≤ length sums.now) }
-    ensures { result ≡ costAt sums.now (place_in side s) }
+    ensures { result ≡ cost_at sums.now (place_in side s) }
 {
     let place = s as usize * 2 + side as usize;
     sums[place * 2]
@@ -105,7 +105,7 @@ pub fn link_at(tokens: &[u32], side: u32, s: u32) -> u32
 // The token in a place; its record is 0 where there is none.
 pub fn token_at(tokens: &[u32], sums: &[f32], side: u32, s: u32) -> Token
     requires { (side ≤ 1) × (s * 8 + 8 ≤ length tokens.now) × (s * 4 + 4 ≤ length sums.now) }
-    ensures { result ≡ tokenOf (cell_at tokens.now sums.now (place_in side s)) }
+    ensures { result ≡ token_of (cell_at tokens.now sums.now (place_in side s)) }
 {
     let p = s as usize * 2 + side as usize;
     Token {
@@ -133,7 +133,7 @@ pub fn put_token(tokens: &mut [u32], sums: &mut [f32], side: u32, s: u32, t: Tok
 // Whether a join has sent the state back to the queue.
 pub fn was_requeued(tokens: &[u32], side: u32, s: u32) -> bool
     requires { (side ≤ 1) × (s * 8 + 8 ≤ length tokens.now) }
-    ensures { result ≡ ltb 0 (requeuedAt tokens.now (place_in side s)) }
+    ensures { result ≡ ltb 0 (requeued_at tokens.now (place_in side s)) }
 {
     has_bit(requeued_in(tokens, side, s / 16), s % 16)
 }

@@ -4,68 +4,68 @@ use Rattle.std.proofs.Math.Path.{refl, sym, ap}
 use Rattle.std.proofs.Common.{◌∙◌}
 use Rattle.std.proofs.Math.Bool.{true, false, not}
 use mathlib.Core.List.{List, ◌∷◌}
-use Rattle.lists.specs.Tests.{case, either, or-neither, and_both}
+use Rattle.lists.specs.Tests.{case, either, or_neither, and_both}
 use Rattle.model.specs.Basics.{nonzero}
-use Rattle.model.specs.Path.{Step, Merge, Path, emptyPath, arcOn, branchOn, isLink, word, memℕ}
-use Rattle.model.specs.Reads.{Rec, resume, recsOn}
-use Rattle.records.specs.History.{History, noHistory, linkOn, joinOn, historyOf, besideWord, besideStarts, plain, history-link, history-quiet, history-beside}
-use Rattle.stores.specs.Shown.{besideIn, timed}
-use Rattle.traceback.specs.Trail.{Trail, addTo, resumedIn, trailOf, trail-on, add_nothing, trail-resumed}
+use Rattle.model.specs.Path.{Step, Merge, Path, empty_path, arc_on_lem, branch_on, is_link, word, memℕ}
+use Rattle.model.specs.Reads.{Rec, resume, recs_on}
+use Rattle.records.specs.History.{History, no_history, link_on_lem, join_on, history_of, beside_word, beside_starts, plain, history_link, history_quiet, history_beside}
+use Rattle.stores.specs.Shown.{beside_in, timed}
+use Rattle.traceback.specs.Trail.{Trail, add_to, resumed_in, trail_of, trail_on, add_nothing, trail_resumed}
 
 -- what a history adds to what is there, by the numbers of the joins whose kept histories are taken
-unfoldable pub historyTrail : (route : List ℕ) → (n : ℕ) → History → Trail → Trail
-historyTrail route n noHistory t = t
-historyTrail route n (linkOn i f w st r) t = historyTrail route n r (addTo n f w st t)
-historyTrail route n (joinOn i f b k r) t = elim (memℕ i route) [ true ↦ historyTrail route n k (addTo n f b.word b.starts (resumedIn n f b.phone b.winner t)) | false ↦ historyTrail route n r t ]
+unfoldable pub history_trail : (route : List ℕ) → (n : ℕ) → History → Trail → Trail
+history_trail route n no_history t = t
+history_trail route n (link_on_lem i f w st r) t = history_trail route n r (add_to n f w st t)
+history_trail route n (join_on i f b k r) t = elim (memℕ i route) [ true ↦ history_trail route n k (add_to n f b.word b.starts (resumed_in n f b.phone b.winner t)) | false ↦ history_trail route n r t ]
 
 module _ (route : List ℕ) (n : ℕ) where
   -- of a path with nothing held beside a join, and of a kept path, whose first arc may be
   record Told (p : Path) : Type 0 where
-    own : (rs : List Rec) → plain p ≡ true → timed p → trailOf n (recsOn route n p rs) ≡ historyTrail route n (historyOf p) (trailOf n rs)
-    kept : (f : ℕ) (rs : List Rec) → besideIn f p → timed p → trailOf n (recsOn route n p rs) ≡ historyTrail route n (historyOf p) (addTo n f (besideWord p) (besideStarts p) (trailOf n rs))
+    own : (rs : List Rec) → plain p ≡ true → timed p → trail_of n (recs_on route n p rs) ≡ history_trail route n (history_of p) (trail_of n rs)
+    kept : (f : ℕ) (rs : List Rec) → beside_in f p → timed p → trail_of n (recs_on route n p rs) ≡ history_trail route n (history_of p) (add_to n f (beside_word p) (beside_starts p) (trail_of n rs))
 
   module _ (s : Step) (q : Path) (i : Told q) where
-    arc-on : (rs : List Rec) → plain q ≡ true → timed q → trailOf n (recsOn route n (arcOn s q) rs) ≡ historyTrail route n (historyOf q) (addTo n s.frame (word s) s.starts (trailOf n rs))
-    unfolding recsOn
-    arc-on rs e t = i.own (record { frame = s.frame; word = word s; phone = s.starts } ∷ rs) e t ∙ ap (historyTrail route n (historyOf q)) (trail-on n (record { frame = s.frame; word = word s; phone = s.starts }) rs)
+    arc_on : (rs : List Rec) → plain q ≡ true → timed q → trail_of n (recs_on route n (arc_on_lem s q) rs) ≡ history_trail route n (history_of q) (add_to n s.frame (word s) s.starts (trail_of n rs))
+    unfolding recs_on
+    arc_on rs e t = i.own (record { frame = s.frame; word = word s; phone = s.starts } ∷ rs) e t ∙ ap (history_trail route n (history_of q)) (trail_on n (record { frame = s.frame; word = word s; phone = s.starts }) rs)
 
-    arc-own : (rs : List Rec) → s.beside ≡ false → plain q ≡ true → timed q → trailOf n (recsOn route n (arcOn s q) rs) ≡ historyTrail route n (historyOf (arcOn s q)) (trailOf n rs)
-    unfolding historyTrail
-    arc-own rs b e t = case (either (isLink s)) (λ l. arc-on rs e t ∙ ap (λ (x : History). historyTrail route n x (trailOf n rs)) (sym (history-link s q l b)))
-        (λ l. let z = or-neither (nonzero (word s)) (nonzero s.starts) l in
-        arc-on rs e t ∙ ap (historyTrail route n (historyOf q)) (add_nothing n s.frame (word s) s.starts (trailOf n rs) z.0 z.1) ∙ ap (λ (x : History). historyTrail route n x (trailOf n rs)) (sym (history-quiet s q l)))
+    arc_own : (rs : List Rec) → s.beside ≡ false → plain q ≡ true → timed q → trail_of n (recs_on route n (arc_on_lem s q) rs) ≡ history_trail route n (history_of (arc_on_lem s q)) (trail_of n rs)
+    unfolding history_trail
+    arc_own rs b e t = case (either (is_link s)) (λ l. arc_on rs e t ∙ ap (λ (x : History). history_trail route n x (trail_of n rs)) (sym (history_link s q l b)))
+        (λ l. let z = or_neither (nonzero (word s)) (nonzero s.starts) l in
+        arc_on rs e t ∙ ap (history_trail route n (history_of q)) (add_nothing n s.frame (word s) s.starts (trail_of n rs) z.0 z.1) ∙ ap (λ (x : History). history_trail route n x (trail_of n rs)) (sym (history_quiet s q l)))
 
-    arc-kept : (f : ℕ) (rs : List Rec) → (b : Bool) → s.beside ≡ b → besideIn f (arcOn s q) → timed q
-        → trailOf n (recsOn route n (arcOn s q) rs) ≡ historyTrail route n (historyOf (arcOn s q)) (addTo n f (besideWord (arcOn s q)) (besideStarts (arcOn s q)) (trailOf n rs))
-    unfolding besideWord besideStarts
-    arc-kept f rs true b d t =
-        let T = trailOf n rs in
-        let e : addTo n s.frame (word s) s.starts T ≡ addTo n f (besideWord (arcOn s q)) (besideStarts (arcOn s q)) T = rw (b, d.0 b) in
-        arc-on rs d.1 t ∙ ap (λ (x : History). historyTrail route n x (addTo n s.frame (word s) s.starts T)) (sym (history-beside s q b)) ∙ ap (historyTrail route n (historyOf (arcOn s q))) e
-    arc-kept f rs false b d t = arc-own rs b d.1 t ∙ rw (b)
+    arc_kept : (f : ℕ) (rs : List Rec) → (b : Bool) → s.beside ≡ b → beside_in f (arc_on_lem s q) → timed q
+        → trail_of n (recs_on route n (arc_on_lem s q) rs) ≡ history_trail route n (history_of (arc_on_lem s q)) (add_to n f (beside_word (arc_on_lem s q)) (beside_starts (arc_on_lem s q)) (trail_of n rs))
+    unfolding beside_word beside_starts
+    arc_kept f rs true b d t =
+        let T = trail_of n rs in
+        let e : add_to n s.frame (word s) s.starts T ≡ add_to n f (beside_word (arc_on_lem s q)) (beside_starts (arc_on_lem s q)) T = rw (b, d.0 b) in
+        arc_on rs d.1 t ∙ ap (λ (x : History). history_trail route n x (add_to n s.frame (word s) s.starts T)) (sym (history_beside s q b)) ∙ ap (history_trail route n (history_of (arc_on_lem s q))) e
+    arc_kept f rs false b d t = arc_own rs b d.1 t ∙ rw (b)
 
-  branch-own : (m : Merge) (k p : Path) → Told k → Told p → (rs : List Rec) → plain p ≡ true → timed (branchOn m k p)
-      → trailOf n (recsOn route n (branchOn m k p) rs) ≡ historyTrail route n (historyOf (branchOn m k p)) (trailOf n rs)
-  unfolding recsOn historyOf historyTrail
-  branch-own m k p i j rs e t = go (memℕ m.number route)
+  branch_own : (m : Merge) (k p : Path) → Told k → Told p → (rs : List Rec) → plain p ≡ true → timed (branch_on m k p)
+      → trail_of n (recs_on route n (branch_on m k p) rs) ≡ history_trail route n (history_of (branch_on m k p)) (trail_of n rs)
+  unfolding recs_on history_of history_trail
+  branch_own m k p i j rs e t = go (memℕ m.number route)
     where
       go : (b : Bool)
-          → trailOf n (elim b as (λ x. List Rec) [ true ↦ recsOn route n k (resume n m rs) | false ↦ recsOn route n p rs ])
-          ≡ elim b as (λ x. Trail) [ true ↦ historyTrail route n (historyOf k) (addTo n m.frame (besideWord k) (besideStarts k) (resumedIn n m.frame m.keptPhone m.phone (trailOf n rs))) | false ↦ historyTrail route n (historyOf p) (trailOf n rs) ]
-      go true = i.kept m.frame (resume n m rs) t.0 t.1 ∙ ap (λ (x : Trail). historyTrail route n (historyOf k) (addTo n m.frame (besideWord k) (besideStarts k) x)) (trail-resumed n m rs)
+          → trail_of n (elim b as (λ x. List Rec) [ true ↦ recs_on route n k (resume n m rs) | false ↦ recs_on route n p rs ])
+          ≡ elim b as (λ x. Trail) [ true ↦ history_trail route n (history_of k) (add_to n m.frame (beside_word k) (beside_starts k) (resumed_in n m.frame m.kept_phone m.phone (trail_of n rs))) | false ↦ history_trail route n (history_of p) (trail_of n rs) ]
+      go true = i.kept m.frame (resume n m rs) t.0 t.1 ∙ ap (λ (x : Trail). history_trail route n (history_of k) (add_to n m.frame (beside_word k) (beside_starts k) x)) (trail_resumed n m rs)
       go false = j.own rs e t.2
 
   told : (p : Path) → Told p
-  unfolding plain historyOf historyTrail recsOn besideWord besideStarts
-  told emptyPath = record { own = λ rs e t. refl; kept = λ f rs b t. refl }
-  told (arcOn s q) =
+  unfolding plain history_of history_trail recs_on beside_word beside_starts
+  told empty_path = record { own = λ rs e t. refl; kept = λ f rs b t. refl }
+  told (arc_on_lem s q) =
       let i = told q in
-      record { own = λ rs e t. let d = and_both (not s.beside) (plain q) e in arc-own s q i rs (not_so s.beside d.0) d.1 t; kept = λ f rs b t. arc-kept s q i f rs s.beside refl b t }
+      record { own = λ rs e t. let d = and_both (not s.beside) (plain q) e in arc_own s q i rs (not_so s.beside d.0) d.1 t; kept = λ f rs b t. arc_kept s q i f rs s.beside refl b t }
     where
       not_so : (b : Bool) → not b ≡ true → b ≡ false
       not_so true e = sym e
       not_so false e = refl
-  told (branchOn m k p) = let i = told k in let j = told p in record { own = λ rs e t. branch-own m k p i j rs e t; kept = λ f rs b t. branch-own m k p i j rs b t }
+  told (branch_on m k p) = let i = told k in let j = told p in record { own = λ rs e t. branch_own m k p i j rs e t; kept = λ f rs b t. branch_own m k p i j rs b t }
 
-  pub path-trail : (p : Path) (rs : List Rec) → plain p ≡ true → timed p → trailOf n (recsOn route n p rs) ≡ historyTrail route n (historyOf p) (trailOf n rs)
-  path-trail p rs e t = (told p).own rs e t
+  pub path_trail : (p : Path) (rs : List Rec) → plain p ≡ true → timed p → trail_of n (recs_on route n p rs) ≡ history_trail route n (history_of p) (trail_of n rs)
+  path_trail p rs e t = (told p).own rs e t

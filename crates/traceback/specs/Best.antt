@@ -8,10 +8,10 @@ use Rattle.model.specs.Basics.{refuse}
 use Rattle.model.specs.Graph.{Graph}
 use Rattle.model.specs.Path.{Table}
 use Rattle.model.specs.Passes.{State}
-use Rattle.model.specs.Reads.{Ranked, Traced as Told, trace, bestToken, bestPath}
-use Rattle.model.specs.Calls.{Sizes, Answer, pathAnswer, short, words_of, to_list, unless, readBest}
+use Rattle.model.specs.Reads.{Ranked, Traced as Told, trace, best_token, best_path}
+use Rattle.model.specs.Calls.{Sizes, Answer, path_answer, short, words_of, to_list, unless, read_best}
 use Rattle.records.specs.History.{History}
-use Rattle.records.specs.Layout.{recAt}
+use Rattle.records.specs.Layout.{rec_at}
 use Rattle.traceback.specs.declared.Candidate.{Candidate}
 use Rattle.traceback.specs.declared.Best.TheVariants.{Nobody, Token}
 use Rattle.traceback.specs.declared.Size.{Size}
@@ -20,86 +20,86 @@ use Rattle.traceback.specs.declared.Traced.TheVariants.{Refused, Written}
 use Rattle.traceback.specs.declared.BestPath.{BestPath}
 use Rattle.traceback.specs.Ranks.{CandidateIs, Picks, BestIs}
 use Rattle.traceback.specs.Chain.{Walkable}
-use Rattle.traceback.specs.Right.{Parts, places_of, answerOne, tracedAs, TraceKeeps, TraceRight, bestAs, BestKeeps, ReadAsks, BestPathRight}
+use Rattle.traceback.specs.Right.{Parts, places_of, answer_one, traced_as, TraceKeeps, TraceRight, best_as, BestKeeps, ReadAsks, BestPathRight}
 
 -- no path is never too long
 short_none : (z : Sizes) → short z [] [] 0 ≡ false
 unfolding short
 short_none z = rw (le-ltb z.words 0 (omega arith), le-ltb z.frames 0 (omega arith), le-ltb z.segments 0 (omega arith), le-ltb z.entries 0 (omega arith))
 
-abbrev bestOf : Traced → (cost : Float) → BestPath
-bestOf (Refused k) c = BestPath.Refused k
-bestOf (Written z) c = BestPath.Found z c
+abbrev best_of : Traced → (cost : Float) → BestPath
+best_of (Refused k) c = BestPath.Refused k
+best_of (Written z) c = BestPath.Found z c
 
-best-as : (t : Traced) (c : Float) (m : Parts) → bestAs (bestOf t c) m ≡ tracedAs t m c
-best-as (Refused k) c m = refl
-best-as (Written z) c m = refl
+best_as_lem : (t : Traced) (c : Float) (m : Parts) → best_as (best_of t c) m ≡ traced_as t m c
+best_as_lem (Refused k) c m = refl
+best_as_lem (Written z) c m = refl
 
-best_keeps : (t : Traced) (c : Float) (m m' : Parts) → TraceKeeps t m m' → BestKeeps (bestOf t c) m m'
+best_keeps : (t : Traced) (c : Float) (m m' : Parts) → TraceKeeps t m m' → BestKeeps (best_of t c) m m'
 best_keeps (Refused k) c m m' e = e
 best_keeps (Written z) c m m' e = e
 
 -- the definition's answer for a best token, and for none
-abbrev answerFor : Option Told → Sizes → Answer
-answerFor o z = unless (refuse 11 (short z (words_of (to_list o)) (to_list o) 0)) (pathAnswer o)
+abbrev answer_for : Option Told → Sizes → Answer
+answer_for o z = unless (refuse 11 (short z (words_of (to_list o)) (to_list o) 0)) (path_answer o)
 
-abbrev pathOf : State → Option Ranked → Option Told
-pathOf st o = elim o as (λ x. Option Told) [ none ↦ none | some r ↦ some (trace st.frames [] r.token.path r.cost) ]
+abbrev path_of : State → Option Ranked → Option Told
+path_of st o = elim o as (λ x. Option Told) [ none ↦ none | some r ↦ some (trace st.frames [] r.token.path r.cost) ]
 
 -- a graph and a state with nothing but these final weights and this table
-abbrev withFinals : List Float → Graph
-withFinals fs = record { start = 0; offsets = []; ilabels = []; olabels = []; weights = []; nextstates = []; finals = fs; tid2pdf = []; tid2phone = []; pdfs = 0 }
+abbrev with_finals : List Float → Graph
+with_finals fs = record { start = 0; offsets = []; ilabels = []; olabels = []; weights = []; nextstates = []; finals = fs; tid2pdf = []; tid2phone = []; pdfs = 0 }
 
-abbrev withTable : Table → State
-withTable ts = record { margin = none; frames = 0; table = ts; seq = 0; fresh = 0 }
+abbrev with_table : Table → State
+with_table ts = record { margin = none; frames = 0; table = ts; seq = 0; fresh = 0 }
 
 picked : {h : ℕ → History} {used n : ℕ} {ts : Table} {c : Candidate} (o : Option Ranked) → Picks h used n ts (Token c) o → (r : Ranked) × (o ≡ some r) × CandidateIs h used n ts c r
 picked none p = absurd p
 picked (some r) p = (r, refl, p)
 
-none-picked : (h : ℕ → History) (used n : ℕ) (ts : Table) (o : Option Ranked) → Picks h used n ts Nobody o → o ≡ none
-none-picked h used n ts none p = refl
-none-picked h used n ts (some r) p = absurd p
+none_picked : (h : ℕ → History) (used n : ℕ) (ts : Table) (o : Option Ranked) → Picks h used n ts Nobody o → o ≡ none
+none_picked h used n ts none p = refl
+none_picked h used n ts (some r) p = absurd p
 
 module _ {tk : List ℕ} {sm fs : List Float} {rs : List ℕ} {ls : List ℤ} {n b used : ℕ} (asks : ReadAsks tk sm fs rs ls n b used) where
-  pub walkable-of : Walkable rs ls used
-  unfolding recAt
-  walkable-of =
+  pub walkable_of : Walkable rs ls used
+  unfolding rec_at
+  walkable_of =
       let ok = asks.finished.stands in
-      record { records = asks.records; labels = asks.labels; few = asks.few; prev-low = λ k l. (ok.each k l).prev-low; kept_low = λ k l. (ok.each k l).kept_low }
+      record { records = asks.records; labels = asks.labels; few = asks.few; prev_low = λ k l. (ok.each k l).prev_low; kept_low = λ k l. (ok.each k l).kept_low }
 
-  pub link-low : {use-final : Bool} {c : Candidate} → BestIs tk sm fs b n use-final (Token c) → c.link ≤ used
-  link-low {use-final} i =
+  pub link_low : {use_final : Bool} {c : Candidate} → BestIs tk sm fs b n use_final (Token c) → c.link ≤ used
+  link_low {use_final} i =
       let f = asks.finished in
-      let g = withFinals fs in
-      let st = withTable asks.table in
-      let (r, e, d) = picked (bestToken g st use-final) (i.is g refl f.h used st f.shown) in
+      let g = with_finals fs in
+      let st = with_table asks.table in
+      let (r, e, d) = picked (best_token g st use_final) (i.is g refl f.h used st f.shown) in
       d.link.low
 
-module _ {tk : List ℕ} {sm fs : List Float} (rs : List ℕ) (ls : List ℤ) {n b used decoded : ℕ} {use-final : Bool} {m m' : Parts} where
-  pub nobody-right : BestIs tk sm fs b n use-final Nobody → m' ≡ m → BestPathRight tk sm fs rs ls n b used decoded use-final m m' BestPath.Nobody
-  unfolding readBest bestPath
-  nobody-right i e =
+module _ {tk : List ℕ} {sm fs : List Float} (rs : List ℕ) (ls : List ℤ) {n b used decoded : ℕ} {use_final : Bool} {m m' : Parts} where
+  pub nobody_right : BestIs tk sm fs b n use_final Nobody → m' ≡ m → BestPathRight tk sm fs rs ls n b used decoded use_final m m' BestPath.Nobody
+  unfolding read_best best_path
+  nobody_right i e =
       record {
         answer = λ g q gs st y f.
-            let o = none-picked f.h used n st.table (bestToken g st use-final) (i.is g q f.h used st f.shown) in
-            ap (λ (x : Bool). unless (refuse 11 x) (pathAnswer none)) (sym (short_none (places_of m))) ∙ sym (ap (λ (x : Option Ranked). answerFor (pathOf st x) (places_of m)) o);
+            let o = none_picked f.h used n st.table (best_token g st use_final) (i.is g q f.h used st f.shown) in
+            ap (λ (x : Bool). unless (refuse 11 x) (path_answer none)) (sym (short_none (places_of m))) ∙ sym (ap (λ (x : Option Ranked). answer_for (path_of st x) (places_of m)) o);
         kept = e;
       }
 
-  path-right : (t : Traced) (c : Candidate) → BestIs tk sm fs b n use-final (Token c) → TraceRight rs ls [] used decoded c.link m m' t → BestPathRight tk sm fs rs ls n b used decoded use-final m m' (bestOf t c.cost)
-  unfolding readBest bestPath
-  path-right t c i w =
+  path_right : (t : Traced) (c : Candidate) → BestIs tk sm fs b n use_final (Token c) → TraceRight rs ls [] used decoded c.link m m' t → BestPathRight tk sm fs rs ls n b used decoded use_final m m' (best_of t c.cost)
+  unfolding read_best best_path
+  path_right t c i w =
       record {
         answer = λ g q gs st y f.
-            let (r, e, d) = picked (bestToken g st use-final) (i.is g q f.h used st f.shown) in
-            best-as t c.cost m' ∙ w.answer gs f.h f.stands (λ x k. elim k [ ]) r.token.path c.cost d.link
-            ∙ ap₂ (λ (k : ℕ) (x : Float). answerOne (trace k [] r.token.path x) (places_of m)) (sym y) d.cost ∙ sym (ap (λ (o : Option Ranked). answerFor (pathOf st o) (places_of m)) e);
+            let (r, e, d) = picked (best_token g st use_final) (i.is g q f.h used st f.shown) in
+            best_as_lem t c.cost m' ∙ w.answer gs f.h f.stands (λ x k. elim k [ ]) r.token.path c.cost d.link
+            ∙ ap₂ (λ (k : ℕ) (x : Float). answer_one (trace k [] r.token.path x) (places_of m)) (sym y) d.cost ∙ sym (ap (λ (o : Option Ranked). answer_for (path_of st o) (places_of m)) e);
         kept = best_keeps t c.cost m m' w.kept;
       }
 
-  pub path-refused : (k : ℕ) (c : Candidate) → BestIs tk sm fs b n use-final (Token c) → TraceRight rs ls [] used decoded c.link m m' (Refused k) → BestPathRight tk sm fs rs ls n b used decoded use-final m m' (BestPath.Refused k)
-  path-refused k = path-right (Refused k)
+  pub path_refused : (k : ℕ) (c : Candidate) → BestIs tk sm fs b n use_final (Token c) → TraceRight rs ls [] used decoded c.link m m' (Refused k) → BestPathRight tk sm fs rs ls n b used decoded use_final m m' (BestPath.Refused k)
+  path_refused k = path_right (Refused k)
 
-  pub path-found : (z : Size) (c : Candidate) → BestIs tk sm fs b n use-final (Token c) → TraceRight rs ls [] used decoded c.link m m' (Written z) → BestPathRight tk sm fs rs ls n b used decoded use-final m m' (BestPath.Found z c.cost)
-  path-found z = path-right (Written z)
+  pub path_found : (z : Size) (c : Candidate) → BestIs tk sm fs b n use_final (Token c) → TraceRight rs ls [] used decoded c.link m m' (Written z) → BestPathRight tk sm fs rs ls n b used decoded use_final m m' (BestPath.Found z c.cost)
+  path_found z = path_right (Written z)

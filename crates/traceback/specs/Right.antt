@@ -6,7 +6,7 @@ use Rattle.model.specs.Graph.{Graph}
 use Rattle.model.specs.Path.{Path, Table}
 use Rattle.model.specs.Passes.{State}
 use Rattle.model.specs.Reads.{Segment, Traced as Told, trace}
-use Rattle.model.specs.Calls.{Sizes, Answer, pathAnswer, short, words_of, refusedRead, unless, readBest}
+use Rattle.model.specs.Calls.{Sizes, Answer, path_answer, short, words_of, refused_read, unless, read_best}
 use Rattle.records.specs.History.{History}
 use Rattle.records.specs.Layout.{store}
 use Rattle.records.specs.Stands.{Stands}
@@ -17,7 +17,7 @@ use Rattle.traceback.specs.declared.Traced.{Traced}
 use Rattle.traceback.specs.declared.Traced.TheVariants.{Refused, Written}
 use Rattle.traceback.specs.declared.BestPath.{BestPath}
 use Rattle.traceback.specs.Trail.{segment}
-use Rattle.traceback.specs.Traced.{numbersOf, Routed}
+use Rattle.traceback.specs.Traced.{numbers_of, Routed}
 
 -- the three lent parts at one moment
 pub record Parts : Type 0 where
@@ -32,20 +32,20 @@ parts ws fs ss = record { words = ws; frames = fs; segments = ss }
 abbrev pub places_of : Parts → Sizes
 places_of m = record { words = length m.words; frames = length m.frames; segments = length m.segments / 3; entries = 0 }
 
-abbrev pub tooShort : Size → (words frames segments : ℕ) → Bool
-tooShort z w f s = ltb w z.words || (ltb f z.words || ltb s z.segments)
+abbrev pub too_short : Size → (words frames segments : ℕ) → Bool
+too_short z w f s = ltb w z.words || (ltb f z.words || ltb s z.segments)
 
 -- the first k segments of the numbers
-abbrev pub segmentsIn : ℕ → List ℕ → List Segment
-segmentsIn zero xs = []
-segmentsIn (suc k) [] = []
-segmentsIn (suc k) (p ∷ []) = []
-segmentsIn (suc k) (p ∷ s ∷ []) = []
-segmentsIn (suc k) (p ∷ s ∷ e ∷ xs) = segment (pos p) s e ∷ segmentsIn k xs
+abbrev pub segments_in : ℕ → List ℕ → List Segment
+segments_in zero xs = []
+segments_in (suc k) [] = []
+segments_in (suc k) (p ∷ []) = []
+segments_in (suc k) (p ∷ s ∷ []) = []
+segments_in (suc k) (p ∷ s ∷ e ∷ xs) = segment (pos p) s e ∷ segments_in k xs
 
 -- what stands in the parts, of this size
-abbrev pub pathIn : Parts → Size → (cost : Float) → Told
-pathIn m z c = record { words = take z.words m.words; wordFrames = take z.words m.frames; phones = segmentsIn z.segments m.segments; cost = c }
+abbrev pub path_in : Parts → Size → (cost : Float) → Told
+path_in m z c = record { words = take z.words m.words; word_frames = take z.words m.frames; phones = segments_in z.segments m.segments; cost = c }
 
 -- room for a trace
 pub record Fits (z : Size) (ws : List ℤ) (fs ss : List ℕ) : Type 0 where
@@ -62,29 +62,29 @@ pub record Behind (z : Size) (m m' : Parts) : Type 0 where
 
 -- ---- a trace
 
-abbrev pub tracedAs : Traced → Parts → (cost : Float) → Answer
-tracedAs (Refused k) m c = refusedRead k
-tracedAs (Written z) m c = pathAnswer (some (pathIn m z c))
+abbrev pub traced_as : Traced → Parts → (cost : Float) → Answer
+traced_as (Refused k) m c = refused_read k
+traced_as (Written z) m c = path_answer (some (path_in m z c))
 
 abbrev pub TraceKeeps : Traced → (m m' : Parts) → Type 0
 TraceKeeps (Refused k) m m' = m' ≡ m
 TraceKeeps (Written z) m m' = Behind z m m'
 
 -- a read's answer that is one path: 11 where a part is too short
-abbrev pub answerOne : Told → Sizes → Answer
-answerOne t z = unless (refuse 11 (short z (words_of (t ∷ [])) (t ∷ []) 0)) (pathAnswer (some t))
+abbrev pub answer_one : Told → Sizes → Answer
+answer_one t z = unless (refuse 11 (short z (words_of (t ∷ [])) (t ∷ []) 0)) (path_answer (some t))
 
 -- The trace of the path that `link` stands for, along the joins that the route names.
 pub record TraceRight (rs : List ℕ) (ls : List ℤ) (route : List ℕ) (used n link : ℕ) (m m' : Parts) (r : Traced) : Type 0 where
-  pub answer : (gs : List Float) (h : ℕ → History) → Stands (store rs ls gs) used h → Routed used route → (p : Path) (cost : Float) → Is h used link p → tracedAs r m' cost ≡ answerOne (trace n (numbersOf h route) p cost) (places_of m)
+  pub answer : (gs : List Float) (h : ℕ → History) → Stands (store rs ls gs) used h → Routed used route → (p : Path) (cost : Float) → Is h used link p → traced_as r m' cost ≡ answer_one (trace n (numbers_of h route) p cost) (places_of m)
   pub kept : TraceKeeps r m m'
 
 -- ---- the best path
 
-abbrev pub bestAs : BestPath → Parts → Answer
-bestAs (BestPath.Refused k) m = refusedRead k
-bestAs BestPath.Nobody m = pathAnswer none
-bestAs (BestPath.Found z c) m = pathAnswer (some (pathIn m z c))
+abbrev pub best_as : BestPath → Parts → Answer
+best_as (BestPath.Refused k) m = refused_read k
+best_as BestPath.Nobody m = path_answer none
+best_as (BestPath.Found z c) m = path_answer (some (path_in m z c))
 
 abbrev pub BestKeeps : BestPath → (m m' : Parts) → Type 0
 BestKeeps (BestPath.Refused k) m m' = m' ≡ m
@@ -105,6 +105,6 @@ pub record ReadAsks (tk : List ℕ) (sm fs : List Float) (rs : List ℕ) (ls : L
   pub finished : Finished b n (lent tk sm rs ls gaps) used table
 
 -- the definition's answer, for every state that the stores stand for
-pub record BestPathRight (tk : List ℕ) (sm fs : List Float) (rs : List ℕ) (ls : List ℤ) (n b used decoded : ℕ) (use-final : Bool) (m m' : Parts) (r : BestPath) : Type 0 where
-  pub answer : (g : Graph) → g.finals ≡ fs → (gs : List Float) (st : State) → st.frames ≡ decoded → Finished b n (lent tk sm rs ls gs) used st.table → bestAs r m' ≡ readBest g st use-final (places_of m)
+pub record BestPathRight (tk : List ℕ) (sm fs : List Float) (rs : List ℕ) (ls : List ℤ) (n b used decoded : ℕ) (use_final : Bool) (m m' : Parts) (r : BestPath) : Type 0 where
+  pub answer : (g : Graph) → g.finals ≡ fs → (gs : List Float) (st : State) → st.frames ≡ decoded → Finished b n (lent tk sm rs ls gs) used st.table → best_as r m' ≡ read_best g st use_final (places_of m)
   pub kept : BestKeeps r m m'

@@ -8,12 +8,12 @@ use Rattle.model.specs.Graph.{Graph}
 use Rattle.model.specs.Path.{Token, Table}
 use Rattle.model.specs.Passes.{State}
 use Rattle.model.specs.Basics.{∞, ◌⊖◌}
-use Rattle.model.specs.Reads.{useFinals, leastFrom, finalRelativeCost, numActive}
+use Rattle.model.specs.Reads.{use_finals, least_from, final_relative_cost, num_active}
 use Rattle.tokens.specs.declared.Token.{Token as Stored}
 use Rattle.tokens.specs.Layout.{cell_at, cell_of, held_at, place_in, NextActive}
 use Rattle.records.specs.History.{History}
 use Rattle.stores.specs.Shown.{TokenIs, Shown}
-use Rattle.stores.specs.Tables.{active-at, skip-to}
+use Rattle.stores.specs.Tables.{active_at, skip_to}
 use Rattle.traceback.specs.declared.Leasts.{Leasts}
 
 -- what is said of every state whose table these stores show, whatever the records stand for
@@ -25,16 +25,16 @@ abbrev pub ForGraph : List Float → (Graph → Type 0) → Type 0
 ForGraph fs P = (g : Graph) → g.finals ≡ fs → P g
 
 pub record Counted (tk : List ℕ) (b n r : ℕ) : Type 0 where
-  pub is : (sm : List Float) → ForShown tk sm b n (λ st. r ≡ numActive st)
+  pub is : (sm : List Float) → ForShown tk sm b n (λ st. r ≡ num_active st)
 
-pub record FinalsCount (tk : List ℕ) (fs : List Float) (b n : ℕ) (use-final r : Bool) : Type 0 where
-  pub is : (sm : List Float) → ForGraph fs (λ g. ForShown tk sm b n (λ st. r ≡ useFinals g st use-final))
+pub record FinalsCount (tk : List ℕ) (fs : List Float) (b n : ℕ) (use_final r : Bool) : Type 0 where
+  pub is : (sm : List Float) → ForGraph fs (λ g. ForShown tk sm b n (λ st. r ≡ use_finals g st use_final))
 
 pub record LeastsAre (tk : List ℕ) (sm fs : List Float) (b n : ℕ) (r : Leasts) : Type 0 where
-  pub is : ForGraph fs (λ g. ForShown tk sm b n (λ st. (r.cost, r.ending) ≡ leastFrom g 0 st.table (∞, ∞)))
+  pub is : ForGraph fs (λ g. ForShown tk sm b n (λ st. (r.cost, r.ending) ≡ least_from g 0 st.table (∞, ∞)))
 
 pub record RelativeIs (tk : List ℕ) (sm fs : List Float) (b n : ℕ) (r : Float) : Type 0 where
-  pub is : ForGraph fs (λ g. ForShown tk sm b n (λ st. r ≡ finalRelativeCost g st))
+  pub is : ForGraph fs (λ g. ForShown tk sm b n (λ st. r ≡ final_relative_cost g st))
 
 -- ---- a walk over the active states
 
@@ -50,7 +50,7 @@ Skips f = (s : ℕ) (rest : Table) → f s (none ∷ rest) ≡ f (suc s) rest
 
 module _ {A : Type 0} {tk : List ℕ} {sm : List Float} {b n : ℕ} where
   pub walk_start : {r : ℕ} (f : ℕ → Table → A) (whole : Table → A) → Skips f → ((ts : Table) → f 0 ts ≡ whole ts) → NextActive tk b 0 n r → Walking tk sm b n r f whole
-  walk_start {r} f whole skips e a = record { upto = a.upto; active = a.active; is = λ h used ts w. sym (skip-to w f skips 0 r a) ∙ e ts }
+  walk_start {r} f whole skips e a = record { upto = a.upto; active = a.active; is = λ h used ts w. sym (skip_to w f skips 0 r a) ∙ e ts }
 
   pub walk_turn : {s r : ℕ} (f g : ℕ → Table → A) (whole : Table → A) → Skips g → Walking tk sm b n s f whole → s < n
       → ((h : ℕ → History) (used : ℕ) (t : Token) (y : Stored) → cell_at tk sm (place_in b s) ≡ cell_of y → TokenIs h used y t → (rest : Table) → g (suc s) rest ≡ f s (some t ∷ rest))
@@ -59,9 +59,9 @@ module _ {A : Type 0} {tk : List ℕ} {sm : List Float} {b n : ℕ} where
     where
       go : (h : ℕ → History) (used : ℕ) (ts : Table) → Shown h used tk sm b n ts → g r (drop r ts) ≡ whole ts
       go h used ts x =
-          let c = active-at x s l (w.active l) in
+          let c = active_at x s l (w.active l) in
           let d : drop s ts ≡ some c.token ∷ drop (suc s) ts = drop-cons ts s none (let z = x.size in omega arith) ∙ ap (λ o. o ∷ drop (suc s) ts) c.at in
-          sym (skip-to x g skips (s + 1) r a) ∙ ap (λ (i : ℕ). g i (drop i ts)) (add-one s) ∙ step h used c.token c.stored c.cell c.is (drop (suc s) ts) ∙ ap (f s) (sym d) ∙ w.is h used ts x
+          sym (skip_to x g skips (s + 1) r a) ∙ ap (λ (i : ℕ). g i (drop i ts)) (add-one s) ∙ step h used c.token c.stored c.cell c.is (drop (suc s) ts) ∙ ap (f s) (sym d) ∙ w.is h used ts x
 
   pub walk_end : {s : ℕ} (f : ℕ → Table → A) (whole : Table → A) → Walking tk sm b n s f whole → n ≤ s → (h : ℕ → History) (used : ℕ) (ts : Table) → Shown h used tk sm b n ts → f s [] ≡ whole ts
   walk_end {s} f whole w l h used ts x = ap (f s) (sym (drop_of_length-le ts {i = s} (let z = x.size in omega arith))) ∙ w.is h used ts x
@@ -70,25 +70,25 @@ module _ {A : Type 0} {tk : List ℕ} {sm : List Float} {b n : ℕ} where
 pub walk_here : {A : Type 0} {tk : List ℕ} {sm : List Float} {b n s : ℕ} (f : ℕ → Table → A) (whole : Table → A) → Walking tk sm b n s f whole → s < n → (h : ℕ → History) (used : ℕ) (ts : Table) → Shown h used tk sm b n ts
     → (t : Token) × (rest : Table) × (f s (some t ∷ rest) ≡ whole ts)
 walk_here {s = s} f whole w l h used ts x =
-    let c = active-at x s l (w.active l) in
+    let c = active_at x s l (w.active l) in
     let d : drop s ts ≡ some c.token ∷ drop (suc s) ts = drop-cons ts s none (let z = x.size in omega arith) ∙ ap (λ o. o ∷ drop (suc s) ts) c.at in
     (c.token, drop (suc s) ts, ap (f s) (sym d) ∙ w.is h used ts x)
 
 -- ---- the relative cost
 
-abbrev pub relativeOf : Float × Float → Float
-relativeOf b = cond (not (finite b.0) && not (finite b.1)) ∞ (b.1 ⊖ b.0)
+abbrev pub relative_of : Float × Float → Float
+relative_of b = cond (not (finite b.0) && not (finite b.1)) ∞ (b.1 ⊖ b.0)
 
 module _ {tk : List ℕ} {sm fs : List Float} {b n : ℕ} (l : Leasts) (a : LeastsAre tk sm fs b n l) where
-  relative-is : (r : Float) → r ≡ relativeOf (l.cost, l.ending) → RelativeIs tk sm fs b n r
-  unfolding finalRelativeCost
-  relative-is r e = record { is = λ g q h used st w. e ∙ ap relativeOf (a.is g q h used st w) }
+  relative_is : (r : Float) → r ≡ relative_of (l.cost, l.ending) → RelativeIs tk sm fs b n r
+  unfolding final_relative_cost
+  relative_is r e = record { is = λ g q h used st w. e ∙ ap relative_of (a.is g q h used st w) }
 
-  pub relative-cost : finite l.cost ≡ true → RelativeIs tk sm fs b n (l.ending ⊖ l.cost)
-  relative-cost e = relative-is (l.ending ⊖ l.cost) (rw e)
+  pub relative_cost : finite l.cost ≡ true → RelativeIs tk sm fs b n (l.ending ⊖ l.cost)
+  relative_cost e = relative_is (l.ending ⊖ l.cost) (rw e)
 
-  pub relative-ending : finite l.cost ≡ false → finite l.ending ≡ true → RelativeIs tk sm fs b n (l.ending ⊖ l.cost)
-  relative-ending e f = relative-is (l.ending ⊖ l.cost) (rw (e, f))
+  pub relative_ending : finite l.cost ≡ false → finite l.ending ≡ true → RelativeIs tk sm fs b n (l.ending ⊖ l.cost)
+  relative_ending e f = relative_is (l.ending ⊖ l.cost) (rw (e, f))
 
-  pub relative-none : (r : Float) → r ≡ ∞ → finite l.cost ≡ false → finite l.ending ≡ false → RelativeIs tk sm fs b n r
-  relative-none r q e f = relative-is r (rw (e, f) q)
+  pub relative_none : (r : Float) → r ≡ ∞ → finite l.cost ≡ false → finite l.ending ≡ false → RelativeIs tk sm fs b n r
+  relative_none r q e f = relative_is r (rw (e, f) q)

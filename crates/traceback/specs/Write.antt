@@ -12,15 +12,15 @@ use Rattle.std.proofs.Math.Seq.{length-sets}
 use Rattle.std.proofs.lemmas.List.{set_comm}
 use Rattle.lists.specs.Tests.{never}
 use Rattle.model.specs.Basics.{eqℤ, nonzero}
-use Rattle.model.specs.Path.{withWord}
+use Rattle.model.specs.Path.{with_word}
 use Rattle.model.specs.Reads.{Segment}
 use Rattle.traceback.specs.declared.Step.{Step}
 use Rattle.traceback.specs.declared.Head.{Head}
 use Rattle.traceback.specs.declared.Size.{Size}
-use Rattle.traceback.specs.Trail.{Trail, noTrail, segment, begun, start_of}
-use Rattle.traceback.specs.Chain.{step_of, backAt, tell, chainTrail, trailFrom, headOn, back_in, Walkable, SizeIs}
+use Rattle.traceback.specs.Trail.{Trail, no_trail, segment, begun, start_of}
+use Rattle.traceback.specs.Chain.{step_of, back_at, tell, chain_trail, trail_from, head_on, back_in, Walkable, SizeIs}
 use Rattle.traceback.specs.Right.{Fits}
-use Rattle.traceback.specs.Walk.{step-low, chain_next, NoFront, HeadIs, count-is, start_is, head-begun, head-told}
+use Rattle.traceback.specs.Walk.{step_low, chain_next, NoFront, HeadIs, count_is, start_is, head_begun, head_told}
 
 -- three numbers for each segment
 abbrev pub flat : List Segment → List ℕ
@@ -42,18 +42,18 @@ pub record WordAsks (ws : List ℤ) (fs : List ℕ) (at : ℕ) (w : ℤ) : Type 
 
 pub data WordPut (ws ws' : List ℤ) (fs fs' : List ℕ) (at : ℕ) (w : ℤ) (f r : ℕ) : Type 0 where
   no_word : nonzero w ≡ false → r ≡ at → ws' ≡ ws → fs' ≡ fs → WordPut ws ws' fs fs' at w f r
-  aWord : nonzero w ≡ true → suc r ≡ at → ws' ≡ set ws r w → fs' ≡ set fs r f → WordPut ws ws' fs fs' at w f r
+  a_word : nonzero w ≡ true → suc r ≡ at → ws' ≡ set ws r w → fs' ≡ set fs r f → WordPut ws ws' fs fs' at w f r
 
 abbrev pub with_head : List ℕ → (total : ℕ) → Head → List ℕ
 with_head ss total k = sets ss ((total - k.count) * 3) (k.phone ∷ k.start ∷ k.end ∷ [])
 
 -- the segment that is done is written, where there is one and another comes in front of it
 pub data Written (ss ss' : List ℕ) (total : ℕ) (k r : Head) : Type 0 where
-  notDone : (k.count ≡ 0) ⊎ (r.count ≡ k.count) → ss' ≡ ss → Written ss ss' total k r
-  isDone : (k.count ≡ 0 → ⊥) → (r.count ≡ k.count → ⊥) → ss' ≡ with_head ss total k → Written ss ss' total k r
+  not_done : (k.count ≡ 0) ⊎ (r.count ≡ k.count) → ss' ≡ ss → Written ss ss' total k r
+  is_done : (k.count ≡ 0 → ⊥) → (r.count ≡ k.count → ⊥) → ss' ≡ with_head ss total k → Written ss ss' total k r
 
 pub record BegunIn (ss ss' : List ℕ) (total : ℕ) (k : Head) (p f : ℕ) (r : Head) : Type 0 where
-  pub head : r ≡ headOn k p f
+  pub head : r ≡ head_on k p f
   pub written : Written ss ss' total k r
 
 -- ---- stores in front of others
@@ -88,13 +88,13 @@ module _ (S S' : List ℕ) (total : ℕ) where
       ap₂ (λ (m : List ℕ) (j : ℕ). sets m j (k.phone ∷ k.start ∷ k.end ∷ [])) (e ∙ ap (λ (j : ℕ). sets S j (flat ss)) z) y ∙ ap (sets (sets S (suc (suc (suc at))) (flat ss)) at) three
       ∙ put_three S at (nat_abs s.phone) s.start s.end (flat ss)
 
-  pub fill-begun : (S'' : List ℕ) (n : ℕ) (k r : Head) (p f : ℕ) (ss : List Segment) → HeadIs n k ss → length ss ≤ total → r ≡ headOn k p f → Written S' S'' total k r → Filled S S' total (rest_of ss) → Filled S S'' total (rest_of (begun n (pos p) f ss))
-  unfolding headOn
-  fill-begun S'' n k r zero f ss i l a (notDone c q) e = q ∙ e
-  fill-begun S'' n k r zero f ss i l a (isDone d g q) e = absurd (g (ap (λ (x : Head). x.count) a))
-  fill-begun S'' n k r (suc p) f [] i l a (notDone c q) e = q ∙ e
-  fill-begun S'' n k r (suc p) f [] i l a (isDone d g q) e = absurd (d i.count)
-  fill-begun S'' n k r (suc p) f (s ∷ ss) i l a w e =
+  pub fill_begun : (S'' : List ℕ) (n : ℕ) (k r : Head) (p f : ℕ) (ss : List Segment) → HeadIs n k ss → length ss ≤ total → r ≡ head_on k p f → Written S' S'' total k r → Filled S S' total (rest_of ss) → Filled S S'' total (rest_of (begun n (pos p) f ss))
+  unfolding head_on
+  fill_begun S'' n k r zero f ss i l a (not_done c q) e = q ∙ e
+  fill_begun S'' n k r zero f ss i l a (is_done d g q) e = absurd (g (ap (λ (x : Head). x.count) a))
+  fill_begun S'' n k r (suc p) f [] i l a (not_done c q) e = q ∙ e
+  fill_begun S'' n k r (suc p) f [] i l a (is_done d g q) e = absurd (d i.count)
+  fill_begun S'' n k r (suc p) f (s ∷ ss) i l a w e =
       subst (λ (b : Bool). Filled S S'' total (rest_of (cond b (segment (pos (suc p)) f s.end ∷ ss) (segment (pos (suc p)) f s.start ∷ (s ∷ ss))))) (ap (λ (x : ℤ). eqℤ x (pos (suc p))) i.phone)
       (go (eqb k.phone (suc p)) (counted (eqb (suc p) 0) (eqb-suc-zero p) (eqb k.phone (suc p)) a) w)
     where
@@ -105,59 +105,59 @@ module _ (S S' : List ℕ) (total : ℕ) where
       counted false o false a = ap (λ (x : Head). x.count) a
 
       go : (b : Bool) → r.count ≡ cond b k.count (k.count + 1) → Written S' S'' total k r → Filled S S'' total (rest_of (cond b (segment (pos (suc p)) f s.end ∷ ss) (segment (pos (suc p)) f s.start ∷ (s ∷ ss))))
-      go true c (notDone d q) = q ∙ e
-      go true c (isDone d g q) = absurd (g c)
-      go false c (notDone (inl z) q) = absurd (let y = i.count in omega arith)
-      go false c (notDone (inr z) q) = absurd (omega arith)
-      go false c (isDone d g q) = q ∙ fill_more n k s ss i l e
+      go true c (not_done d q) = q ∙ e
+      go true c (is_done d g q) = absurd (g c)
+      go false c (not_done (inl z) q) = absurd (let y = i.count in omega arith)
+      go false c (not_done (inr z) q) = absurd (omega arith)
+      go false c (is_done d g q) = q ∙ fill_more n k s ss i l e
 
 -- ---- lengths only grow
 
-begun-grows : (n : ℕ) (p : ℤ) (f : ℕ) (ss : List Segment) → length ss ≤ length (begun n p f ss)
-begun-grows n p f [] = omega arith
-begun-grows n p f (s ∷ ss) = go (nonzero p) (eqℤ s.phone p)
+begun_grows : (n : ℕ) (p : ℤ) (f : ℕ) (ss : List Segment) → length ss ≤ length (begun n p f ss)
+begun_grows n p f [] = omega arith
+begun_grows n p f (s ∷ ss) = go (nonzero p) (eqℤ s.phone p)
   where
     go : (a b : Bool) → suc (length ss) ≤ length (cond a (cond b (segment p f s.end ∷ ss) (segment p f s.start ∷ (s ∷ ss))) (s ∷ ss))
     go true true = omega arith
     go true false = omega arith
     go false b = omega arith
 
-word-grows : (w : ℤ) (ws : List ℤ) → length ws ≤ length (withWord w ws)
-word-grows w ws = go (nonzero w)
+word_grows : (w : ℤ) (ws : List ℤ) → length ws ≤ length (with_word w ws)
+word_grows w ws = go (nonzero w)
   where
     go : (b : Bool) → length ws ≤ length (cond b (w ∷ ws) ws)
     go true = omega arith
     go false = omega arith
 
 module _ (rs : List ℕ) (ls : List ℤ) (route : List ℕ) (n : ℕ) where
-  words-grow : (f r : ℕ) (t : Trail) → length t.words ≤ length (chainTrail rs ls route n f r t).words
-  unfolding chainTrail tell
-  words-grow zero r t = omega arith
-  words-grow (suc f) zero t = omega arith
-  words-grow (suc f) (suc k) t =
+  words_grow : (f r : ℕ) (t : Trail) → length t.words ≤ length (chain_trail rs ls route n f r t).words
+  unfolding chain_trail tell
+  words_grow zero r t = omega arith
+  words_grow (suc f) zero t = omega arith
+  words_grow (suc f) (suc k) t =
       let s = step_of rs ls route n k in
-      let a = words-grow f s.next (tell n s t) in
-      let b = word-grows s.word t.words in
+      let a = words_grow f s.next (tell n s t) in
+      let b = word_grows s.word t.words in
       omega arith
 
-  segments-grow : (f r : ℕ) (t : Trail) → length t.segments ≤ length (chainTrail rs ls route n f r t).segments
-  unfolding chainTrail tell
-  segments-grow zero r t = omega arith
-  segments-grow (suc f) zero t = omega arith
-  segments-grow (suc f) (suc k) t =
+  segments_grow : (f r : ℕ) (t : Trail) → length t.segments ≤ length (chain_trail rs ls route n f r t).segments
+  unfolding chain_trail tell
+  segments_grow zero r t = omega arith
+  segments_grow (suc f) zero t = omega arith
+  segments_grow (suc f) (suc k) t =
       let s = step_of rs ls route n k in
-      let back = begun n (pos (backAt (start_of n t.segments) s)) s.at t.segments in
-      let a = segments-grow f s.next (tell n s t) in
-      let b = begun-grows n (pos (backAt (start_of n t.segments) s)) s.at t.segments in
-      let c = begun-grows n (pos s.phone) s.frame back in
+      let back = begun n (pos (back_at (start_of n t.segments) s)) s.at t.segments in
+      let a = segments_grow f s.next (tell n s t) in
+      let b = begun_grows n (pos (back_at (start_of n t.segments) s)) s.at t.segments in
+      let c = begun_grows n (pos s.phone) s.frame back in
       omega arith
 
 -- ---- a word and its frame in front
 
 word_on : (W W' W'' : List ℤ) (F F' F'' : List ℕ) (at : ℕ) (w : ℤ) (f at' total : ℕ) (ws : List ℤ) (fs : List ℕ) → WordPut W' W'' F' F'' at w f at' → at + length ws ≡ total → W' ≡ sets W at ws → F' ≡ sets F at fs
-    → (at' + length (withWord w ws) ≡ total) × (W'' ≡ sets W at' (withWord w ws)) × (F'' ≡ sets F at' (cond (nonzero w) (f ∷ fs) fs))
+    → (at' + length (with_word w ws) ≡ total) × (W'' ≡ sets W at' (with_word w ws)) × (F'' ≡ sets F at' (cond (nonzero w) (f ∷ fs) fs))
 word_on W W' W'' F F' F'' at w f at' total ws fs (no_word e q a b) c u v = rw e (omega arith, rw q (a ∙ u), rw q (b ∙ v))
-word_on W W' W'' F F' F'' at w f at' total ws fs (aWord e q a b) c u v =
+word_on W W' W'' F F' F'' at w f at' total ws fs (a_word e q a b) c u v =
     rw e (
       omega arith,
       a ∙ ap (λ (x : List ℤ). set x at' w) (u ∙ ap (λ (j : ℕ). sets W j ws) (sym q)) ∙ set_before W at' (suc at') w ws (omega arith),
@@ -169,17 +169,17 @@ word_on W W' W'' F F' F'' at w f at' total ws fs (aWord e q a b) c u v =
 -- What is written of the records passed; the rest of the walk gives the whole.
 pub record Writing (rs : List ℕ) (ls : List ℤ) (route : List ℕ) (n link : ℕ) (z : Size) (W : List ℤ) (F S : List ℕ) (W' : List ℤ) (F' S' : List ℕ) (at : ℕ) (head : Head) (r : ℕ) : Type 0 where
   pub trail : Trail
-  pub chain : trailFrom rs ls route n r trail ≡ trailFrom rs ls route n link noTrail
+  pub chain : trail_from rs ls route n r trail ≡ trail_from rs ls route n link no_trail
   pub low : r ≤ link
-  pub at-is : at + length trail.words ≡ z.words
+  pub at_is : at + length trail.words ≡ z.words
   pub words : W' ≡ sets W at trail.words
   pub frames : F' ≡ sets F at trail.frames
-  pub head-is : HeadIs n head trail.segments
+  pub head_is : HeadIs n head trail.segments
   pub segments : Filled S S' z.segments (rest_of trail.segments)
 
-module _ {rs : List ℕ} {ls : List ℤ} {route : List ℕ} {n link used : ℕ} (w : Walkable rs ls used) (low : link ≤ used) {z : Size} (size : SizeIs (trailFrom rs ls route n link noTrail) used z) {W : List ℤ} {F S : List ℕ} (fit : Fits z W F S) where
-  pub writing-none : (head : Head) → NoFront n head → Writing rs ls route n link z W F S W F S z.words head link
-  writing-none head i = record { trail = noTrail; chain = refl; low = omega arith; at-is = omega arith; words = refl; frames = refl; head-is = i; segments = refl }
+module _ {rs : List ℕ} {ls : List ℤ} {route : List ℕ} {n link used : ℕ} (w : Walkable rs ls used) (low : link ≤ used) {z : Size} (size : SizeIs (trail_from rs ls route n link no_trail) used z) {W : List ℤ} {F S : List ℕ} (fit : Fits z W F S) where
+  pub writing_none : (head : Head) → NoFront n head → Writing rs ls route n link z W F S W F S z.words head link
+  writing_none head i = record { trail = no_trail; chain = refl; low = omega arith; at_is = omega arith; words = refl; frames = refl; head_is = i; segments = refl }
 
   module _ {W' : List ℤ} {F' S' : List ℕ} {at : ℕ} {k : Head} {r : ℕ} (i : Writing rs ls route n link z W F S W' F' S' at k r) where
     -- the lengths stay
@@ -188,101 +188,101 @@ module _ {rs : List ℕ} {ls : List ℤ} {route : List ℕ} {n link used : ℕ} 
 
     -- one more record, number r
     module _ (s : Step) (d : r ≡ 0 → ⊥) (e : s ≡ step_of rs ls route n (r - 1)) where
-      next-chain : trailFrom rs ls route n s.next (tell n s i.trail) ≡ trailFrom rs ls route n link noTrail
-      next-chain = let y = i.low in rw e (sym (chain_next rs ls route n used w r (r - 1) i.trail (omega arith) (omega arith))) ∙ i.chain
+      next_chain : trail_from rs ls route n s.next (tell n s i.trail) ≡ trail_from rs ls route n link no_trail
+      next_chain = let y = i.low in rw e (sym (chain_next rs ls route n used w r (r - 1) i.trail (omega arith) (omega arith))) ∙ i.chain
 
-      next-words : length (tell n s i.trail).words ≤ z.words
-      next-words = let a = words-grow rs ls route n s.next s.next (tell n s i.trail) in let b = ap (λ (t : Trail). length t.words) next-chain in let c = size.words in omega arith
+      next_words : length (tell n s i.trail).words ≤ z.words
+      next_words = let a = words_grow rs ls route n s.next s.next (tell n s i.trail) in let b = ap (λ (t : Trail). length t.words) next_chain in let c = size.words in omega arith
 
-      next-segments : length (tell n s i.trail).segments ≤ z.segments
-      next-segments = let a = segments-grow rs ls route n s.next s.next (tell n s i.trail) in let b = ap (λ (t : Trail). length t.segments) next-chain in let c = size.segments in omega arith
+      next_segments : length (tell n s i.trail).segments ≤ z.segments
+      next_segments = let a = segments_grow rs ls route n s.next s.next (tell n s i.trail) in let b = ap (λ (t : Trail). length t.segments) next_chain in let c = size.segments in omega arith
 
       abbrev back : List Segment
-      back = begun n (pos (backAt (start_of n i.trail.segments) s)) s.at i.trail.segments
+      back = begun n (pos (back_at (start_of n i.trail.segments) s)) s.at i.trail.segments
 
-      pub word-asks : WordAsks W' F' at s.word
+      pub word_asks : WordAsks W' F' at s.word
       unfolding tell
-      word-asks =
+      word_asks =
           let l = lengths in
-          let a = i.at-is in
+          let a = i.at_is in
           let y = fit.words in
           let x = fit.frames in
-          record { some = λ t. let b : suc (length i.trail.words) ≤ z.words = rw t at next-words in omega arith; words = let v = l.0 in omega arith; frames = let v = l.1 in omega arith }
+          record { some = λ t. let b : suc (length i.trail.words) ≤ z.words = rw t at next_words in omega arith; words = let v = l.0 in omega arith; frames = let v = l.1 in omega arith }
 
-      pub first-asks : k.count ≤ z.segments
+      pub first_asks : k.count ≤ z.segments
       unfolding tell
-      first-asks =
-          let a = count-is n k i.trail.segments i.head-is in
-          let b = begun-grows n (pos (backAt (start_of n i.trail.segments) s)) s.at i.trail.segments in
-          let c = begun-grows n (pos s.phone) s.frame back in
-          let g = next-segments in
+      first_asks =
+          let a = count_is n k i.trail.segments i.head_is in
+          let b = begun_grows n (pos (back_at (start_of n i.trail.segments) s)) s.at i.trail.segments in
+          let c = begun_grows n (pos s.phone) s.frame back in
+          let g = next_segments in
           omega arith
 
-      module _ (j : Head) (a : j ≡ headOn k (back_in k s) s.at) where
-        head-back : HeadIs n j back
-        head-back =
+      module _ (j : Head) (a : j ≡ head_on k (back_in k s) s.at) where
+        head_back : HeadIs n j back
+        head_back =
             let t = i.trail.segments in
-            let q : j ≡ headOn k (backAt (start_of n t) s) s.at = a ∙ ap (λ (x : ℕ). headOn k (backAt x s) s.at) (start_is n k t i.head-is) in
-            subst (λ (x : Head). HeadIs n x back) (sym q) (head-begun n k (backAt (start_of n t) s) s.at t i.head-is)
+            let q : j ≡ head_on k (back_at (start_of n t) s) s.at = a ∙ ap (λ (x : ℕ). head_on k (back_at x s) s.at) (start_is n k t i.head_is) in
+            subst (λ (x : Head). HeadIs n x back) (sym q) (head_begun n k (back_at (start_of n t) s) s.at t i.head_is)
 
-        pub second-asks : j.count ≤ z.segments
+        pub second_asks : j.count ≤ z.segments
         unfolding tell
-        second-asks = let g = count-is n j back head-back in let c = begun-grows n (pos s.phone) s.frame back in let q = next-segments in omega arith
+        second_asks = let g = count_is n j back head_back in let c = begun_grows n (pos s.phone) s.frame back in let q = next_segments in omega arith
 
-        pub writing-next : {W'' : List ℤ} {F'' S1 S2 : List ℕ} {at' : ℕ} {m : Head} → WordPut W' W'' F' F'' at s.word s.frame at' → Written S' S1 z.segments k j → BegunIn S1 S2 z.segments j s.phone s.frame m
+        pub writing_next : {W'' : List ℤ} {F'' S1 S2 : List ℕ} {at' : ℕ} {m : Head} → WordPut W' W'' F' F'' at s.word s.frame at' → Written S' S1 z.segments k j → BegunIn S1 S2 z.segments j s.phone s.frame m
             → Writing rs ls route n link z W F S W'' F'' S2 at' m s.next
         unfolding tell
-        writing-next {W''} {F''} {S1} {S2} {at'} {m} put first second =
+        writing_next {W''} {F''} {S1} {S2} {at'} {m} put first second =
             let t = i.trail in
-            let p = backAt (start_of n t.segments) s in
-            let q : j ≡ headOn k p s.at = a ∙ ap (λ (x : ℕ). headOn k (backAt x s) s.at) (start_is n k t.segments i.head-is) in
-            let c = count-is n k t.segments i.head-is in
-            let c' = count-is n j back head-back in
-            let l = first-asks in
-            let l' = second-asks in
-            let o = word_on W W' W'' F F' F'' at s.word s.frame at' z.words t.words t.frames put i.at-is i.words i.frames in
+            let p = back_at (start_of n t.segments) s in
+            let q : j ≡ head_on k p s.at = a ∙ ap (λ (x : ℕ). head_on k (back_at x s) s.at) (start_is n k t.segments i.head_is) in
+            let c = count_is n k t.segments i.head_is in
+            let c' = count_is n j back head_back in
+            let l = first_asks in
+            let l' = second_asks in
+            let o = word_on W W' W'' F F' F'' at s.word s.frame at' z.words t.words t.frames put i.at_is i.words i.frames in
             let y = i.low in
-            let x : s.next ≤ r - 1 = rw e (step-low rs ls route n used w (r - 1) (omega arith)) in
-            let done = fill-begun S S' z.segments S1 n k j p s.at t.segments i.head-is (omega arith) q first i.segments in
+            let x : s.next ≤ r - 1 = rw e (step_low rs ls route n used w (r - 1) (omega arith)) in
+            let done = fill_begun S S' z.segments S1 n k j p s.at t.segments i.head_is (omega arith) q first i.segments in
             record {
               trail = tell n s t;
-              chain = next-chain;
+              chain = next_chain;
               low = omega arith;
-              at-is = o.0;
+              at_is = o.0;
               words = o.1;
               frames = o.2;
-              head-is = head-told n k j m s t i.head-is a second.head;
-              segments = fill-begun S S1 z.segments S2 n j m s.phone s.frame back head-back (omega arith) second.head second.written done;
+              head_is = head_told n k j m s t i.head_is a second.head;
+              segments = fill_begun S S1 z.segments S2 n j m s.phone s.frame back head_back (omega arith) second.head second.written done;
             }
 
     -- the oldest record is passed
     module _ (e : r ≡ 0) where
-      whole_is : i.trail ≡ trailFrom rs ls route n link noTrail
-      unfolding chainTrail
+      whole_is : i.trail ≡ trail_from rs ls route n link no_trail
+      unfolding chain_trail
       whole_is = rw e at i.chain
 
       many : length i.trail.segments ≡ z.segments
       many = let a = ap (λ (t : Trail). length t.segments) whole_is in let c = size.segments in omega arith
 
-      pub end-asks : k.count ≤ z.segments
-      end-asks = let a = count-is n k i.trail.segments i.head-is in let b = many in omega arith
+      pub end_asks : k.count ≤ z.segments
+      end_asks = let a = count_is n k i.trail.segments i.head_is in let b = many in omega arith
 
-      ended : {S'' : List ℕ} → S'' ≡ sets S 0 (flat i.trail.segments) → Wrote (trailFrom rs ls route n link noTrail) W F S W' F' S''
+      ended : {S'' : List ℕ} → S'' ≡ sets S 0 (flat i.trail.segments) → Wrote (trail_from rs ls route n link no_trail) W F S W' F' S''
       ended {S''} q =
-          let a : at ≡ 0 = let b = ap (λ (t : Trail). length t.words) whole_is in let c = size.words in let d = i.at-is in omega arith in
+          let a : at ≡ 0 = let b = ap (λ (t : Trail). length t.words) whole_is in let c = size.words in let d = i.at_is in omega arith in
           subst (λ (t : Trail). Wrote t W F S W' F' S'') whole_is (record { words = i.words ∙ ap (λ (x : ℕ). sets W x i.trail.words) a; frames = i.frames ∙ ap (λ (x : ℕ). sets F x i.trail.frames) a; segments = q })
 
-      pub end_none : k.count ≡ 0 → Wrote (trailFrom rs ls route n link noTrail) W F S W' F' S'
-      end_none c = go i.trail.segments i.head-is i.segments (λ q. ended q)
+      pub end_none : k.count ≡ 0 → Wrote (trail_from rs ls route n link no_trail) W F S W' F' S'
+      end_none c = go i.trail.segments i.head_is i.segments (λ q. ended q)
         where
-          go : (ss : List Segment) → HeadIs n k ss → Filled S S' z.segments (rest_of ss) → (S' ≡ sets S 0 (flat ss) → Wrote (trailFrom rs ls route n link noTrail) W F S W' F' S') → Wrote (trailFrom rs ls route n link noTrail) W F S W' F' S'
+          go : (ss : List Segment) → HeadIs n k ss → Filled S S' z.segments (rest_of ss) → (S' ≡ sets S 0 (flat ss) → Wrote (trail_from rs ls route n link no_trail) W F S W' F' S') → Wrote (trail_from rs ls route n link no_trail) W F S W' F' S'
           go [] h f g = g f
           go (s ∷ ss) h f g = absurd (let y = h.count in omega arith)
 
-      pub end-put : {S'' : List ℕ} → (k.count ≡ 0 → ⊥) → S'' ≡ with_head S' z.segments k → Wrote (trailFrom rs ls route n link noTrail) W F S W' F' S''
-      end-put {S''} d q = go i.trail.segments i.head-is i.segments many (λ q. ended q)
+      pub end_put : {S'' : List ℕ} → (k.count ≡ 0 → ⊥) → S'' ≡ with_head S' z.segments k → Wrote (trail_from rs ls route n link no_trail) W F S W' F' S''
+      end_put {S''} d q = go i.trail.segments i.head_is i.segments many (λ q. ended q)
         where
-          go : (ss : List Segment) → HeadIs n k ss → Filled S S' z.segments (rest_of ss) → length ss ≡ z.segments → (S'' ≡ sets S 0 (flat ss) → Wrote (trailFrom rs ls route n link noTrail) W F S W' F' S'') → Wrote (trailFrom rs ls route n link noTrail) W F S W' F' S''
+          go : (ss : List Segment) → HeadIs n k ss → Filled S S' z.segments (rest_of ss) → length ss ≡ z.segments → (S'' ≡ sets S 0 (flat ss) → Wrote (trail_from rs ls route n link no_trail) W F S W' F' S'') → Wrote (trail_from rs ls route n link no_trail) W F S W' F' S''
           go [] h f m g = absurd (d h.count)
           go (s ∷ ss) h f m g =
               let y : (z.segments - suc (length ss)) * 3 ≡ 0 = omega arith in

@@ -6,11 +6,11 @@ ghost use Rattle.real32.specs.Least.{fmin};
 ghost use Rattle.model.specs.Basics.{◌≺◌};
 ghost use Rattle.model.specs.Path.{memℕ};
 ghost use Rattle.traceback.specs.Table.{Counted, FinalsCount, LeastsAre, RelativeIs};
-ghost use Rattle.traceback.specs.Ranks.{weightIn, rankIn, candidateAt, BestIs, soonestOf};
-ghost use Rattle.traceback.specs.Trail.{noTrail};
-ghost use Rattle.traceback.specs.Chain.{takesKept, ownStep, goesOn, keptStep, step_of, headOn, back_in, Walkable, trailFrom, SizeIs};
+ghost use Rattle.traceback.specs.Ranks.{weight_in, rank_in, candidate_at, BestIs, soonest_of};
+ghost use Rattle.traceback.specs.Trail.{no_trail};
+ghost use Rattle.traceback.specs.Chain.{takes_kept, own_step, goes_on, kept_step, step_of, head_on, back_in, Walkable, trail_from, SizeIs};
 ghost use Rattle.traceback.specs.Write.{WordAsks, WordPut, with_head, BegunIn, Wrote};
-ghost use Rattle.traceback.specs.Right.{Fits, tooShort, parts, TraceRight, ReadAsks, BestPathRight};
+ghost use Rattle.traceback.specs.Right.{Fits, too_short, parts, TraceRight, ReadAsks, BestPathRight};
 
 use tokens::next_active;
 
@@ -100,7 +100,7 @@ pub fn final_relative_cost(
 // What a state's token is ranked by where it ends there: its final weight, or nothing where finals do not count.
 fn end_weight(finals: &[f32], s: u32, counts: bool) -> f32
     requires { s < length finals.now }
-    ensures { result ≡ weightIn finals.now s counts }
+    ensures { result ≡ weight_in finals.now s counts }
 {
     if counts { finals[s as usize] } else { 0.0 }
 }
@@ -109,7 +109,7 @@ const GRAPH_SCALE: f32 = 0.9;
 
 // The rank of a cost c that already has the final weight.
 fn rank_of(c: f32, graph: f32, weight: f32, counts: bool) -> f32
-    ensures { result ≡ rankIn c graph weight counts }
+    ensures { result ≡ rank_in c graph weight counts }
 {
     if counts {
         c - (1.0 - GRAPH_SCALE) * (graph + weight)
@@ -144,7 +144,7 @@ pub fn candidate_at(
     counts: bool,
 ) -> Best
     requires { (side ≤ 1) × (s * 8 + 8 ≤ length tokens.now) × (s * 4 + 4 ≤ length sums.now) × (s < length finals.now) }
-    ensures { result ≡ candidateAt tokens.now sums.now finals.now side s counts }
+    ensures { result ≡ candidate_at tokens.now sums.now finals.now side s counts }
 {
     let t = tokens::token_at(tokens, sums, side, s);
     let weight = end_weight(finals, s, counts);
@@ -177,7 +177,7 @@ pub fn is_sooner(a: Candidate, b: Candidate) -> bool
 
 // The sooner of two; `a` where neither is.
 fn soonest(a: Best, b: Best) -> Best
-    ensures { result ≡ soonestOf a b }
+    ensures { result ≡ soonest_of a b }
 {
     match a {
         Best::Nobody => b,
@@ -239,7 +239,7 @@ fn on_route(route: &[u32], r: u32) -> bool
 
 fn takes_kept(records: &[u32], labels: &[i32], route: &[u32], r: u32) -> bool
     requires { (0 < r) × (r * 8 ≤ length records.now) × (r * 2 ≤ length labels.now) }
-    ensures { result ≡ takesKept records.now labels.now route.now (r - 1) }
+    ensures { result ≡ takes_kept records.now labels.now route.now (r - 1) }
 {
     if records::word_of(labels, r) != 0 {
         return false;
@@ -253,7 +253,7 @@ fn takes_kept(records: &[u32], labels: &[i32], route: &[u32], r: u32) -> bool
 // A record on the way itself; a join has neither word nor phone.
 fn own_step(records: &[u32], labels: &[i32], r: u32) -> Step
     requires { (0 < r) × (r * 8 ≤ length records.now) × (r * 2 ≤ length labels.now) }
-    ensures { result ≡ ownStep records.now labels.now (r - 1) }
+    ensures { result ≡ own_step records.now labels.now (r - 1) }
 {
     let word = records::word_of(labels, r);
     Step {
@@ -268,7 +268,7 @@ fn own_step(records: &[u32], labels: &[i32], r: u32) -> Step
 
 // Whether the winner's phone goes on after the frame, of n decoded.
 fn goes_on(kept: u32, winner: u32, frame: u32, n: u32) -> bool
-    ensures { result ≡ goesOn kept winner frame n }
+    ensures { result ≡ goes_on kept winner frame n }
 {
     if kept == winner {
         return false;
@@ -282,7 +282,7 @@ fn goes_on(kept: u32, winner: u32, frame: u32, n: u32) -> bool
 // A join whose kept history is taken.
 fn kept_step(records: &[u32], labels: &[i32], n: u32, r: u32) -> Step
     requires { (0 < r) × (r * 8 ≤ length records.now) × (r * 2 ≤ length labels.now) }
-    ensures { result ≡ keptStep records.now labels.now n (r - 1) }
+    ensures { result ≡ kept_step records.now labels.now n (r - 1) }
 {
     let next = records::kept_of(records, r);
     let frame = records::frame_of(records, r);
@@ -332,7 +332,7 @@ struct Head {
 // A phone (0 for none) that starts at a frame, before all so far. Where the oldest segment is in it already, that one begins earlier.
 fn begin(head: Head, phone: u32, frame: u32) -> Head
     requires { head.count < 2 ^ 32 - 1 }
-    ensures { result ≡ headOn head phone frame }
+    ensures { result ≡ head_on head phone frame }
 {
     if phone == 0 {
         return head;
@@ -370,7 +370,7 @@ pub struct Size {
 // Goes from the newest record back to the oldest.
 pub fn measure(records: &[u32], labels: &[i32], route: &[u32], used: u32, n: u32, link: u32) -> Size
     requires { (Walkable records.now labels.now used) × (link ≤ used) }
-    ensures { SizeIs (trailFrom records.now labels.now route.now n link noTrail) used result }
+    ensures { SizeIs (trail_from records.now labels.now route.now n link no_trail) used result }
 {
     let mut words = 0;
     let mut head = Head {
@@ -450,8 +450,8 @@ pub fn write(
     frames: &mut [u32],
     segments: &mut [u32],
 )
-    requires { (Walkable records.now labels.now used) × (link ≤ used) × (SizeIs (trailFrom records.now labels.now route.now n link noTrail) used size) × (Fits size words.old frames.old segments.old) }
-    ensures { Wrote (trailFrom records.now labels.now route.now n link noTrail) words.old frames.old segments.old words.new frames.new segments.new }
+    requires { (Walkable records.now labels.now used) × (link ≤ used) × (SizeIs (trail_from records.now labels.now route.now n link no_trail) used size) × (Fits size words.old frames.old segments.old) }
+    ensures { Wrote (trail_from records.now labels.now route.now n link no_trail) words.old frames.old segments.old words.new frames.new segments.new }
 {
     let mut at = size.words;
     let mut head = Head {
@@ -476,7 +476,7 @@ pub fn write(
 
 // Whether parts of these lengths are too short for a trace, with room for so many segments.
 fn too_short(size: Size, words: usize, frames: usize, segments: usize) -> bool
-    ensures { result ≡ tooShort size words frames segments }
+    ensures { result ≡ too_short size words frames segments }
 {
     if words < size.words as usize {
         return true;

@@ -3,8 +3,8 @@ use Rattle.std.proofs.Common.{◌≡◌, ℕ, ◌+◌, ◌-◌, ◌*◌, ◌/◌
 use native.Mathlib.Nat.{add-mul-mod_self_right}
 
 -- a product of two halves fits two
-pub fits-two : (a b : ℕ) → a < 2 ^ 32 → b < 2 ^ 32 → a * b < 2 ^ 64
-fits-two a b h k =
+pub fits_two : (a b : ℕ) → a < 2 ^ 32 → b < 2 ^ 32 → a * b < 2 ^ 64
+fits_two a b h k =
     let i : a ≤ 2 ^ 32 - 1 = omega arith in
     let j : b ≤ 2 ^ 32 - 1 = omega arith in
     omega (arith, mul-le-mul i j)

@@ -7,16 +7,16 @@ use lib.Ieee.{nan}
 use Rattle.model.specs.Ints.{back}
 use Rattle.model.specs.Basics.{◌⊕◌, 0f}
 use Rattle.lists.specs.Members.{get_d_any}
-use Rattle.arcs.specs.Part.{heard-at, phone-asks}
+use Rattle.arcs.specs.Part.{heard_at, phone_asks}
 use borrow.Author.Rules.{rules}
 use Rattle.arcs.proofs.arrival_at.Statement.{statement}
 use Rattle.arcs.proofs.arrival_at.Tie as tie
 
 total-requires : tie.Need-total-requires
-total-requires c κs = let T = c.before.before.before.requires in let e = T.of.weights in let h = T.here in (omega arith, heard-at _ _ _ T)
+total-requires c κs = let T = c.before.before.before.requires in let e = T.of.weights in let h = T.here in (omega arith, heard_at _ _ _ T)
 
 phone-after-requires : tie.Need-phone-after-requires
-phone-after-requires c κs = phone-asks _ _ _ c.before.before.before.before.requires
+phone-after-requires c κs = phone_asks _ _ _ c.before.before.before.before.requires
 
 mul-t13 : tie.Need-overflow-mul-t13
 mul-t13 c = search rules

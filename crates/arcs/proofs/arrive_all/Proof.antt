@@ -5,9 +5,9 @@ use native.Mathlib.Omega.{arith}
 use lib.ListN.{length}
 use borrow.Author.Rules.{rules}
 use Rattle.lists.specs.Tests.{next_fits}
-use Rattle.stores.specs.Rep.{lent, Lens, lens-self, lens-then}
+use Rattle.stores.specs.Rep.{lent, Lens, lens_self, lens_then}
 use Rattle.arcs.specs.Part.{part}
-use Rattle.arcs.specs.All.{AllGiven, SoFar, far-start, all-now, far-next, far-stop, far-end}
+use Rattle.arcs.specs.All.{AllGiven, SoFar, far_start, all_now, far_next, far_stop, far_end}
 use Rattle.arcs.proofs.arrive_all.Statement.{statement}
 use Rattle.arcs.proofs.arrive_all.Tie as tie
 
@@ -21,10 +21,10 @@ decreases-loop tokens₀ sums₀ records₀ labels₀ gaps₀ queue₀ eps ilabe
     length ilabels - i
 
 loop-holds : tie.Need-loop-init invariant-loop decreases-loop
-loop-holds c = (omega arith, lens-self _, refl, λ G. far-start G)
+loop-holds c = (omega arith, lens_self _, refl, λ G. far_start G)
 
 arrive-at-requires : tie.Need-arrive-at-requires invariant-loop decreases-loop
-arrive-at-requires c κs = (all-now c.before.before.before.before.before.before.before.before.before.before.before.before.before.before.before.before.before.requires (c.before.before.before.before.before.before.before.loop.invariant.3 c.before.before.before.before.before.before.before.before.before.before.before.before.before.before.before.before.before.requires) c.before.before.before.before.before.before.before.loop.invariant.2, c.before.before.before.before.before.before.loop-test.true)
+arrive-at-requires c κs = (all_now c.before.before.before.before.before.before.before.before.before.before.before.before.before.before.before.before.before.requires (c.before.before.before.before.before.before.before.loop.invariant.3 c.before.before.before.before.before.before.before.before.before.before.before.before.before.before.before.before.before.requires) c.before.before.before.before.before.before.before.loop.invariant.2, c.before.before.before.before.before.before.loop-test.true)
 
 enum-known-n : tie.Need-enum-known-n invariant-loop decreases-loop
 enum-known-n c = search rules
@@ -48,7 +48,7 @@ same-length-6 : tie.Need-same-length-6 invariant-loop decreases-loop
 same-length-6 c = c.before.before.before.before.before.before.before.before.before.before.before.before.before.before.arrive-at.auto.1.1.1.1.1.0 ∙ c.before.before.before.before.before.before.before.before.before.before.before.before.before.before.before.before.before.before.before.before.before.before.loop.invariant.2
 
 returns : tie.Need-returns invariant-loop decreases-loop
-returns c = λ G. far-stop G (c.before.before.before.before.before.before.before.before.before.before.before.before.before.before.before.before.before.before.before.before.before.before.loop.invariant.3 G) c.before.before.before.before.before.before.before.before.before.before.before.before.before.before.before.before.before.before.before.before.before.loop-test.true c.before.before.before.before.before.before.before.before.before.before.before.before.before.before.before.before.before.before.before.before.before.before.loop.invariant.2 _ c.before.before.before.before.before.before.before.before.before.before.before.before.before.before.arrive-at.ensures _ c.before.n.given.1
+returns c = λ G. far_stop G (c.before.before.before.before.before.before.before.before.before.before.before.before.before.before.before.before.before.before.before.before.before.before.loop.invariant.3 G) c.before.before.before.before.before.before.before.before.before.before.before.before.before.before.before.before.before.before.before.before.before.loop-test.true c.before.before.before.before.before.before.before.before.before.before.before.before.before.before.before.before.before.before.before.before.before.before.loop.invariant.2 _ c.before.before.before.before.before.before.before.before.before.before.before.before.before.before.arrive-at.ensures _ c.before.n.given.1
 
 enum-known-next : tie.Need-enum-known-next invariant-loop decreases-loop
 enum-known-next c = search rules
@@ -62,9 +62,9 @@ loop-less c = let h = c.before.before.before.before.before.before.before.before.
 loop-again : tie.Need-loop-preserved invariant-loop decreases-loop
 loop-again c = let h = c.before.before.before.before.before.before.before.before.before.before.before.before.before.before.before.before.before.before.before.before.before.loop-test.true in (
   omega arith,
-  lens-then c.before.before.before.before.before.before.before.before.before.before.before.before.before.before.before.before.before.before.before.before.before.before.loop.invariant.1 (record { tokens = c.before.before.before.before.before.before.before.before.before.before.before.before.before.before.arrive-at.auto.0; sums = c.before.before.before.before.before.before.before.before.before.before.before.before.before.before.arrive-at.auto.1.0; records = c.before.before.before.before.before.before.before.before.before.before.before.before.before.before.arrive-at.auto.1.1.0; labels = c.before.before.before.before.before.before.before.before.before.before.before.before.before.before.arrive-at.auto.1.1.1.0; gaps = c.before.before.before.before.before.before.before.before.before.before.before.before.before.before.arrive-at.auto.1.1.1.1.0 }),
+  lens_then c.before.before.before.before.before.before.before.before.before.before.before.before.before.before.before.before.before.before.before.before.before.before.loop.invariant.1 (record { tokens = c.before.before.before.before.before.before.before.before.before.before.before.before.before.before.arrive-at.auto.0; sums = c.before.before.before.before.before.before.before.before.before.before.before.before.before.before.arrive-at.auto.1.0; records = c.before.before.before.before.before.before.before.before.before.before.before.before.before.before.arrive-at.auto.1.1.0; labels = c.before.before.before.before.before.before.before.before.before.before.before.before.before.before.arrive-at.auto.1.1.1.0; gaps = c.before.before.before.before.before.before.before.before.before.before.before.before.before.before.arrive-at.auto.1.1.1.1.0 }),
   c.before.before.before.before.before.before.before.before.before.before.before.before.before.before.arrive-at.auto.1.1.1.1.1.0 ∙ c.before.before.before.before.before.before.before.before.before.before.before.before.before.before.before.before.before.before.before.before.before.before.loop.invariant.2,
-  λ G. far-next G (c.before.before.before.before.before.before.before.before.before.before.before.before.before.before.before.before.before.before.before.before.before.before.loop.invariant.3 G) h c.before.before.before.before.before.before.before.before.before.before.before.before.before.before.before.before.before.before.before.before.before.before.loop.invariant.2 _ c.before.before.before.before.before.before.before.before.before.before.before.before.before.before.arrive-at.ensures _ c.before.next.given.1,
+  λ G. far_next G (c.before.before.before.before.before.before.before.before.before.before.before.before.before.before.before.before.before.before.before.before.before.before.loop.invariant.3 G) h c.before.before.before.before.before.before.before.before.before.before.before.before.before.before.before.before.before.before.before.before.before.before.loop.invariant.2 _ c.before.before.before.before.before.before.before.before.before.before.before.before.before.before.arrive-at.ensures _ c.before.next.given.1,
 )
 
 same-length-7 : tie.Need-same-length-7 invariant-loop decreases-loop
@@ -86,7 +86,7 @@ same-length-12 : tie.Need-same-length-12 invariant-loop decreases-loop
 same-length-12 c = c.before.loop.invariant.2
 
 returns-2 : tie.Need-returns-2 invariant-loop decreases-loop
-returns-2 c = λ G. far-end G (c.before.loop.invariant.3 G) c.loop-test.false
+returns-2 c = λ G. far_end G (c.before.loop.invariant.3 G) c.loop-test.false
 
 pub arrive-all-spec : {M : Type 1} → statement M
 arrive-all-spec =

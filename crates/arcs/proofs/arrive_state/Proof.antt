@@ -1,18 +1,18 @@
 -- The state's arcs are the parts between its offset and the next.
 use native.Mathlib.Omega.{arith}
-use Rattle.arcs.specs.State.{offset-room, bounds, all-given, state-done}
+use Rattle.arcs.specs.State.{offset_room, bounds, all_given, state_done}
 use borrow.Author.Rules.{rules}
 use Rattle.arcs.proofs.arrive_state.Statement.{statement}
 use Rattle.arcs.proofs.arrive_state.Tie as tie
 
 first-arc-requires : tie.Need-first-arc-requires
-first-arc-requires c κs = let z = offset-room c.before.before.before.before.before.before.before.before.before.before.requires in omega arith
+first-arc-requires c κs = let z = offset_room c.before.before.before.before.before.before.before.before.before.before.requires in omega arith
 
 add-first-arc : tie.Need-overflow-add-first-arc
 add-first-arc c = search rules
 
 first-arc-requires-2 : tie.Need-first-arc-requires-2
-first-arc-requires-2 c κs = let z = offset-room c.before.before.before.before.before.before.before.before.before.before.before.requires in omega arith
+first-arc-requires-2 c κs = let z = offset_room c.before.before.before.before.before.before.before.before.before.before.before.requires in omega arith
 
 mul-arrive-all : tie.Need-overflow-mul-arrive-all
 mul-arrive-all c = let z = bounds c.before.before.before.before.before.before.before.before.before.before.before.before.before.before.before.before.before.before.requires _ _ c.before.before.before.before.before.before.before.first-arc.ensures c.before.before.before.before.before.before.first-arc2.ensures in let a = z.0 in let b = z.5 in record { fits = omega arith }
@@ -63,7 +63,7 @@ part-arrive-all-end-4 : tie.Need-slice-bounds-arrive-all-end-4
 part-arrive-all-end-4 c = (bounds c.before.before.before.before.before.before.before.before.before.before.before.before.before.before.before.before.before.before.before.before.before.requires _ _ c.before.before.before.before.before.before.before.before.before.before.first-arc.ensures c.before.before.before.before.before.before.before.before.before.first-arc2.ensures).4
 
 arrive-all-requires : tie.Need-arrive-all-requires
-arrive-all-requires c κs = all-given c.before.before.before.before.before.before.before.before.before.before.before.before.before.before.before.before.before.before.before.before.before.before.requires _ _ c.before.before.before.before.before.before.before.before.before.before.before.first-arc.ensures c.before.before.before.before.before.before.before.before.before.before.first-arc2.ensures
+arrive-all-requires c κs = all_given c.before.before.before.before.before.before.before.before.before.before.before.before.before.before.before.before.before.before.before.before.before.before.requires _ _ c.before.before.before.before.before.before.before.before.before.before.before.first-arc.ensures c.before.before.before.before.before.before.before.before.before.before.first-arc2.ensures
 
 same_length : tie.Need-same-length
 same_length c = search rules
@@ -84,7 +84,7 @@ same-length-6 : tie.Need-same-length-6
 same-length-6 c = search rules
 
 returns : tie.Need-returns
-returns c = λ G. state-done G _ _ c.before.before.before.before.before.before.before.before.before.before.before.before.before.before.before.before.before.before.before.before.before.before.before.first-arc.ensures c.before.before.before.before.before.before.before.before.before.before.before.before.before.before.before.before.before.before.before.before.before.before.first-arc2.ensures _ _ _ c.before.before.before.before.before.before.before.before.before.before.before.arrive-all.ensures
+returns c = λ G. state_done G _ _ c.before.before.before.before.before.before.before.before.before.before.before.before.before.before.before.before.before.before.before.before.before.before.before.first-arc.ensures c.before.before.before.before.before.before.before.before.before.before.before.before.before.before.before.before.before.before.before.before.before.before.first-arc2.ensures _ _ _ c.before.before.before.before.before.before.before.before.before.before.before.arrive-all.ensures
 
 pub arrive-state-spec : {M : Type 1} → statement M
 arrive-state-spec =

@@ -1,14 +1,14 @@
 -- The arc, then its end.
-use Rattle.arcs.specs.Whole.{whole, arc-given, end-asks}
+use Rattle.arcs.specs.Whole.{whole, arc_given, end_asks}
 use borrow.Author.Rules.{rules}
 use Rattle.arcs.proofs.arrive_whole.Statement.{statement}
 use Rattle.arcs.proofs.arrive_whole.Tie as tie
 
 arrive-requires : tie.Need-arrive-requires
-arrive-requires c κs = arc-given c.before.before.before.before.before.before.before.before.before.before.before.requires
+arrive-requires c κs = arc_given c.before.before.before.before.before.before.before.before.before.before.before.requires
 
 finish-requires : tie.Need-finish-requires
-finish-requires c κs = end-asks c.before.before.before.before.before.before.before.before.before.before.before.before.before.before.before.before.before.before.before.before.before.before.before.requires c.before.before.before.before.before.before.before.before.before.before.before.arrive.new.0 c.before.before.before.before.before.before.before.before.before.before.before.arrive.auto.0
+finish-requires c κs = end_asks c.before.before.before.before.before.before.before.before.before.before.before.before.before.before.before.before.before.before.before.before.before.before.before.requires c.before.before.before.before.before.before.before.before.before.before.before.arrive.new.0 c.before.before.before.before.before.before.before.before.before.before.before.arrive.auto.0
 
 same_length : tie.Need-same-length
 same_length c = search rules

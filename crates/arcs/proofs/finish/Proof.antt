@@ -1,6 +1,6 @@
 -- By what came of the arc.
 use mathlib.Core.Path.{refl}
-use Rattle.arcs.specs.Finish.{finishRefused, finishCut, finishStays, finishWins, finishJoins}
+use Rattle.arcs.specs.Finish.{finish_refused, finish_cut, finish_stays, finish_wins, finish_joins}
 use borrow.Author.Rules.{rules}
 use Rattle.arcs.proofs.finish.Statement.{statement}
 use Rattle.arcs.proofs.finish.Tie as tie
@@ -36,19 +36,19 @@ push-joined-requires : tie.Need-push-joined-requires
 push-joined-requires c κs = search rules
 
 returns : tie.Need-returns
-returns c = finishRefused _ c.before.came.given.1 refl
+returns c = finish_refused _ c.before.came.given.1 refl
 
 returns-2 : tie.Need-returns-2
-returns-2 c = finishCut c.enum_told.given.1 refl refl
+returns-2 c = finish_cut c.enum_told.given.1 refl refl
 
 returns-3 : tie.Need-returns-3
-returns-3 c = finishStays c.before.before.came2.given.1 c.moved.ensures refl refl
+returns-3 c = finish_stays c.before.before.came2.given.1 c.moved.ensures refl refl
 
 same_length : tie.Need-same-length
 same_length c = search rules
 
 returns-4 : tie.Need-returns-4
-returns-4 c = finishWins c.before.before.before.before.before.before.came3.given.1 c.before.before.before.moved2.ensures refl c.before.before.push-winner.ensures
+returns-4 c = finish_wins c.before.before.before.before.before.before.came3.given.1 c.before.before.before.moved2.ensures refl c.before.before.push-winner.ensures
 
 same-length-2 : tie.Need-same-length-2
 same-length-2 c = search rules
@@ -57,7 +57,7 @@ same-length-3 : tie.Need-same-length-3
 same-length-3 c = search rules
 
 returns-5 : tie.Need-returns-5
-returns-5 c = finishJoins c.before.before.before.before.before.before.before.before.before.came4.given.1 c.before.before.before.before.before.before.before.moved3.ensures c.before.before.before.before.push-joined.ensures
+returns-5 c = finish_joins c.before.before.before.before.before.before.before.before.before.came4.given.1 c.before.before.before.before.before.before.before.moved3.ensures c.before.before.before.before.push-joined.ensures
 
 pub finish_spec : {M : Type 1} → statement M
 finish_spec =

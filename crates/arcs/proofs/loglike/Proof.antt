@@ -9,13 +9,13 @@ use lib.ListN.{get_or}
 use lib.Ieee.{nan}
 use Rattle.model.specs.Basics.{0f}
 use Rattle.lists.specs.Members.{get_d_any}
-use Rattle.arcs.specs.Part.{byLabel}
+use Rattle.arcs.specs.Part.{by_label}
 use borrow.Author.Rules.{rules}
 use Rattle.arcs.proofs.loglike.Statement.{statement}
 use Rattle.arcs.proofs.loglike.Tie as tie
 
 -- the label's pdf
-pdf-is : (d : tie.After-number-at2) → d.number-at2.result ≡ byLabel d.before.before.before.args.ilabels.now d.before.before.before.args.tid2pdf.now d.before.before.before.args.i
+pdf-is : (d : tie.After-number-at2) → d.number-at2.result ≡ by_label d.before.before.before.args.ilabels.now d.before.before.before.args.tid2pdf.now d.before.before.before.args.i
 pdf-is d = d.number-at2.ensures.0 ∙ ap (λ (n : ℕ). nat_abs (get_or d.before.before.before.args.tid2pdf.now n (pos 0))) d.before.number_at.ensures.0
 
 number-at-requires : tie.Need-number-at-requires

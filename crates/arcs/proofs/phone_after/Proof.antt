@@ -7,7 +7,7 @@ use lib.IntN.{pos, nat_abs}
 use lib.Signed.{non_neg}
 use lib.ListN.{get_or}
 use Rattle.arcs.specs.declared.Pass.{Pass}
-use Rattle.arcs.specs.Part.{Labelled, PhoneAsks, phoneIn}
+use Rattle.arcs.specs.Part.{Labelled, PhoneAsks, phone_in}
 use borrow.Author.Rules.{rules}
 use Rattle.arcs.proofs.phone_after.Statement.{statement}
 use Rattle.arcs.proofs.phone_after.Tie as tie
@@ -34,10 +34,10 @@ enum-told-2 c = search rules
 
 returns : tie.Need-returns
 returns c = c.number-at2.ensures.0 ∙ ap (λ (n : ℕ). nat_abs (get_or c.before.before.before.before.args.tid2phone.now n (pos 0))) c.before.number_at.ensures.0 ∙
-    sym (ap (λ (p : Pass). phoneIn p c.before.before.before.before.args.ilabels.now c.before.before.before.before.args.tid2phone.now c.before.before.before.before.args.phone c.before.before.before.before.args.i) c.before.before.enum_told.given.1)
+    sym (ap (λ (p : Pass). phone_in p c.before.before.before.before.args.ilabels.now c.before.before.before.before.args.tid2phone.now c.before.before.before.before.args.phone c.before.before.before.before.args.i) c.before.before.enum_told.given.1)
 
 returns-2 : tie.Need-returns-2
-returns-2 c = sym (ap (λ (p : Pass). phoneIn p c.before.before.args.ilabels.now c.before.before.args.tid2phone.now c.before.before.args.phone c.before.before.args.i) c.enum-told2.given.1)
+returns-2 c = sym (ap (λ (p : Pass). phone_in p c.before.before.args.ilabels.now c.before.before.args.tid2phone.now c.before.before.args.phone c.before.before.args.i) c.enum-told2.given.1)
 
 pub phone-after-spec : {M : Type 1} → statement M
 phone-after-spec =

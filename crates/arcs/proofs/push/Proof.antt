@@ -1,12 +1,12 @@
 -- A push, or a full queue.
 use mathlib.Core.Path.{refl}
-use Rattle.arcs.specs.Passed.{pushFull, pushOn}
+use Rattle.arcs.specs.Passed.{push_full, push_on}
 use borrow.Author.Rules.{rules}
 use Rattle.arcs.proofs.push.Statement.{statement}
 use Rattle.arcs.proofs.push.Tie as tie
 
 returns : tie.Need-returns
-returns c = pushFull c.if1.true refl
+returns c = push_full c.if1.true refl
 
 mul-queue : tie.Need-overflow-mul-queue
 mul-queue c = search rules
@@ -21,7 +21,7 @@ same_length : tie.Need-same-length
 same_length c = search rules
 
 returns-2 : tie.Need-returns-2
-returns-2 c = pushOn c.if1.false refl
+returns-2 c = push_on c.if1.false refl
 
 pub push_spec : {M : Type 1} → statement M
 push_spec = tie.close (tie.spec returns mul-queue slice-write-queue add-t5 same_length returns-2)

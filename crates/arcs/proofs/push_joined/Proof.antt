@@ -1,7 +1,7 @@
 -- The state is marked before it is pushed.
 use mathlib.Core.Path.{refl, sym, ◌∙◌}
 use borrow.Author.Tests.{not-true, not-false}
-use Rattle.arcs.specs.Finish.{joinedStays, joinedPushed}
+use Rattle.arcs.specs.Finish.{joined_stays, joined_pushed}
 use borrow.Author.Rules.{rules}
 use Rattle.arcs.proofs.push_joined.Statement.{statement}
 use Rattle.arcs.proofs.push_joined.Tie as tie
@@ -13,7 +13,7 @@ same_length : tie.Need-same-length
 same_length c = search rules
 
 returns : tie.Need-returns
-returns c = joinedStays (sym c.before.requeues.ensures ∙ not-true _ c.if1.true) refl refl
+returns c = joined_stays (sym c.before.requeues.ensures ∙ not-true _ c.if1.true) refl refl
 
 set-requeued-requires : tie.Need-set-requeued-requires
 set-requeued-requires c κs = search rules
@@ -28,7 +28,7 @@ same-length-3 : tie.Need-same-length-3
 same-length-3 c = search rules
 
 returns-2 : tie.Need-returns-2
-returns-2 c = joinedPushed (sym c.before.before.before.before.before.before.before.before.before.requeues.ensures ∙ not-false _ c.before.before.before.before.before.before.before.before.if1.false) c.before.before.before.before.before.before.set-requeued.ensures c.before.before.push.ensures
+returns-2 c = joined_pushed (sym c.before.before.before.before.before.before.before.before.before.requeues.ensures ∙ not-false _ c.before.before.before.before.before.before.before.before.if1.false) c.before.before.before.before.before.before.set-requeued.ensures c.before.before.push.ensures
 
 pub push-joined-spec : {M : Type 1} → statement M
 push-joined-spec =

@@ -1,6 +1,6 @@
 -- Only the nonemitting pass pushes.
 use mathlib.Core.Path.{refl}
-use Rattle.arcs.specs.Finish.{winnerStays, winnerPushed}
+use Rattle.arcs.specs.Finish.{winner_stays, winner_pushed}
 use borrow.Author.Rules.{rules}
 use Rattle.arcs.proofs.push_winner.Statement.{statement}
 use Rattle.arcs.proofs.push_winner.Tie as tie
@@ -15,13 +15,13 @@ push-requires : tie.Need-push-requires
 push-requires c κs = search rules
 
 returns : tie.Need-returns
-returns c = winnerStays c.enum_told.given.1 refl
+returns c = winner_stays c.enum_told.given.1 refl
 
 same_length : tie.Need-same-length
 same_length c = search rules
 
 returns-2 : tie.Need-returns-2
-returns-2 c = winnerPushed c.before.before.before.before.enum-told2.given.1 c.before.before.push.ensures
+returns-2 c = winner_pushed c.before.before.before.before.enum-told2.given.1 c.before.before.push.ensures
 
 pub push-winner-spec : {M : Type 1} → statement M
 push-winner-spec =

@@ -1,7 +1,7 @@
 -- The new token's record, or its refusal, and then what becomes of the loser.
 use Rattle.std.proofs.Common.{sym, refl, rules}
 use Rattle.joins.specs.declared.Keeping.TheVariants.{Dropped, Full, Joined}
-use Rattle.arrivals.specs.Settled.{beatRefused, beatWins, beat-asks}
+use Rattle.arrivals.specs.Settled.{beat_refused, beat_wins, beat_asks}
 use Rattle.arrivals.proofs.beat.Statement.{statement}
 use Rattle.arrivals.proofs.beat.Tie as tie
 
@@ -21,7 +21,7 @@ margin-of-requires : tie.Need-margin-of-requires
 margin-of-requires c κs = search rules
 
 keep-requires : tie.Need-keep-requires
-keep-requires c κs = rw c.before.before.before.before.new-token.ensures (beat-asks _ _ _ _ _ c.before.before.before.before.before.before.before.before.before.before.before.before.before.before.before.before.requires _ _ c.before.before.before.before.before.before.before.before.before.before.before.put_on.auto.0 c.before.before.before.before.before.before.before.before.before.before.before.put_on.auto.1.0 _ _ _ _ (rw c.before.before.before.before.before.before.link.given.1 at c.before.before.before.before.before.before.before.before.before.before.before.put_on.ensures))
+keep-requires c κs = rw c.before.before.before.before.new-token.ensures (beat_asks _ _ _ _ _ c.before.before.before.before.before.before.before.before.before.before.before.before.before.before.before.before.requires _ _ c.before.before.before.before.before.before.before.before.before.before.before.put_on.auto.0 c.before.before.before.before.before.before.before.before.before.before.before.put_on.auto.1.0 _ _ _ _ (rw c.before.before.before.before.before.before.link.given.1 at c.before.before.before.before.before.before.before.before.before.before.before.put_on.ensures))
 
 enum_told : tie.Need-enum-told
 enum_told c = search rules
@@ -42,7 +42,7 @@ same-length-2 : tie.Need-same-length-2
 same-length-2 c = search rules
 
 returns : tie.Need-returns
-returns c = beatRefused (rw c.before.n.given.1 at c.before.before.before.before.before.before.put_on.ensures) refl
+returns c = beat_refused (rw c.before.n.given.1 at c.before.before.before.before.before.before.put_on.ensures) refl
 
 same-length-3 : tie.Need-same-length-3
 same-length-3 c = search rules
@@ -54,7 +54,7 @@ same-length-5 : tie.Need-same-length-5
 same-length-5 c = search rules
 
 returns-2 : tie.Need-returns-2
-returns-2 c = rw c.before.before.before.before.before.before.before.before.before.before.before.before.new-token.ensures (beatWins Dropped _ _ (rw c.before.before.before.before.before.before.before.before.before.before.before.before.before.before.link.given.1 at c.before.before.before.before.before.before.before.before.before.before.before.before.before.before.before.before.before.before.before.put_on.ensures) (rw (sym c.before.before.before.before.before.before.before.before.before.before.before.before.new-token.ensures, sym c.before.before.before.before.before.before.before.before.margin-of.ensures) (rw c.enum_told.given.1 at c.before.before.before.before.before.before.before.keep.ensures)))
+returns-2 c = rw c.before.before.before.before.before.before.before.before.before.before.before.before.new-token.ensures (beat_wins Dropped _ _ (rw c.before.before.before.before.before.before.before.before.before.before.before.before.before.before.link.given.1 at c.before.before.before.before.before.before.before.before.before.before.before.before.before.before.before.before.before.before.before.put_on.ensures) (rw (sym c.before.before.before.before.before.before.before.before.before.before.before.before.new-token.ensures, sym c.before.before.before.before.before.before.before.before.margin-of.ensures) (rw c.enum_told.given.1 at c.before.before.before.before.before.before.before.keep.ensures)))
 
 same-length-6 : tie.Need-same-length-6
 same-length-6 c = search rules
@@ -66,7 +66,7 @@ same-length-8 : tie.Need-same-length-8
 same-length-8 c = search rules
 
 returns-3 : tie.Need-returns-3
-returns-3 c = beatWins Full _ _ (rw c.before.before.before.before.before.before.before.before.before.before.before.before.before.before.link.given.1 at c.before.before.before.before.before.before.before.before.before.before.before.before.before.before.before.before.before.before.before.put_on.ensures) (rw (sym c.before.before.before.before.before.before.before.before.before.before.before.before.new-token.ensures, sym c.before.before.before.before.before.before.before.before.margin-of.ensures) (rw c.enum-told2.given.1 at c.before.before.before.before.before.before.before.keep.ensures))
+returns-3 c = beat_wins Full _ _ (rw c.before.before.before.before.before.before.before.before.before.before.before.before.before.before.link.given.1 at c.before.before.before.before.before.before.before.before.before.before.before.before.before.before.before.before.before.before.before.put_on.ensures) (rw (sym c.before.before.before.before.before.before.before.before.before.before.before.before.new-token.ensures, sym c.before.before.before.before.before.before.before.before.margin-of.ensures) (rw c.enum-told2.given.1 at c.before.before.before.before.before.before.before.keep.ensures))
 
 same-length-9 : tie.Need-same-length-9
 same-length-9 c = search rules
@@ -78,7 +78,7 @@ same-length-11 : tie.Need-same-length-11
 same-length-11 c = search rules
 
 returns-4 : tie.Need-returns-4
-returns-4 c = rw (c.with-link.ensures, c.before.before.before.before.before.before.before.before.before.before.before.before.before.before.new-token.ensures) (beatWins (Joined c.before.before.r.given.0.0) _ _ (rw c.before.before.before.before.before.before.before.before.before.before.before.before.before.before.before.before.link.given.1 at c.before.before.before.before.before.before.before.before.before.before.before.before.before.before.before.before.before.before.before.before.before.put_on.ensures) (rw (sym c.before.before.before.before.before.before.before.before.before.before.before.before.before.before.new-token.ensures, sym c.before.before.before.before.before.before.before.before.before.before.margin-of.ensures) (rw c.before.before.r.given.1 at c.before.before.before.before.before.before.before.before.before.keep.ensures)))
+returns-4 c = rw (c.with-link.ensures, c.before.before.before.before.before.before.before.before.before.before.before.before.before.before.new-token.ensures) (beat_wins (Joined c.before.before.r.given.0.0) _ _ (rw c.before.before.before.before.before.before.before.before.before.before.before.before.before.before.before.before.link.given.1 at c.before.before.before.before.before.before.before.before.before.before.before.before.before.before.before.before.before.before.before.before.before.put_on.ensures) (rw (sym c.before.before.before.before.before.before.before.before.before.before.before.before.before.before.new-token.ensures, sym c.before.before.before.before.before.before.before.before.before.before.margin-of.ensures) (rw c.before.before.r.given.1 at c.before.before.before.before.before.before.before.before.before.keep.ensures)))
 
 pub beat-spec : {M : Type 1} → statement M
 beat-spec =

@@ -1,5 +1,5 @@
 -- The new token's record, or its refusal.
-use Rattle.arrivals.specs.Settled.{fillRefused, fillWins}
+use Rattle.arrivals.specs.Settled.{fill_refused, fill_wins}
 use Rattle.std.proofs.Common.{rules}
 use Rattle.arrivals.proofs.fill.Statement.{statement}
 use Rattle.arrivals.proofs.fill.Tie as tie
@@ -26,7 +26,7 @@ same-length-2 : tie.Need-same-length-2
 same-length-2 c = search rules
 
 returns : tie.Need-returns
-returns c = fillRefused (rw c.before.n.given.1 at c.before.before.before.before.before.before.put_on.ensures)
+returns c = fill_refused (rw c.before.n.given.1 at c.before.before.before.before.before.before.put_on.ensures)
 
 same-length-3 : tie.Need-same-length-3
 same-length-3 c = search rules
@@ -35,7 +35,7 @@ same-length-4 : tie.Need-same-length-4
 same-length-4 c = search rules
 
 returns-2 : tie.Need-returns-2
-returns-2 c = rw (c.new-token.ensures, c.before.before.before.before.before.before.before.before.before.before.wrapping-add-u32.ensures) (fillWins (rw c.before.before.link.given.1 at c.before.before.before.before.before.before.before.put_on.ensures))
+returns-2 c = rw (c.new-token.ensures, c.before.before.before.before.before.before.before.before.before.before.wrapping-add-u32.ensures) (fill_wins (rw c.before.before.link.given.1 at c.before.before.before.before.before.before.before.put_on.ensures))
 
 pub fill_spec : {M : Type 1} → statement M
 fill_spec =

@@ -1,6 +1,6 @@
 -- One case for each thing that an arc can meet.
 use Rattle.std.proofs.Common.{refl, rules}
-use Rattle.arrivals.specs.Settled.{settledCut, settledFills, settledBeats, settledLoses}
+use Rattle.arrivals.specs.Settled.{settled_cut, settled_fills, settled_beats, settled_loses}
 use Rattle.arrivals.proofs.settle.Statement.{statement}
 use Rattle.arrivals.proofs.settle.Tie as tie
 
@@ -32,7 +32,7 @@ lose-requires : tie.Need-lose-requires
 lose-requires c κs = rw c.before.before.before.token-at2.ensures c.before.before.before.before.before.before.before.before.before.before.before.requires.1
 
 returns : tie.Need-returns
-returns c = rw c.enum_told.given.1 (settledCut refl)
+returns c = rw c.enum_told.given.1 (settled_cut refl)
 
 same_length : tie.Need-same-length
 same_length c = search rules
@@ -41,7 +41,7 @@ same-length-2 : tie.Need-same-length-2
 same-length-2 c = search rules
 
 returns-2 : tie.Need-returns-2
-returns-2 c = rw c.before.before.before.before.before.before.enum-told2.given.1 (settledFills c.before.before.before.fill.ensures refl)
+returns-2 c = rw c.before.before.before.before.before.before.enum-told2.given.1 (settled_fills c.before.before.before.fill.ensures refl)
 
 same-length-3 : tie.Need-same-length-3
 same-length-3 c = search rules
@@ -53,7 +53,7 @@ same-length-5 : tie.Need-same-length-5
 same-length-5 c = search rules
 
 returns-3 : tie.Need-returns-3
-returns-3 c = rw c.before.before.before.before.before.before.before.before.before.before.before.met.given.1 (settledBeats (rw c.before.before.before.before.before.before.before.before.before.token-at.ensures at c.before.before.before.before.before.beat.ensures))
+returns-3 c = rw c.before.before.before.before.before.before.before.before.before.before.before.met.given.1 (settled_beats (rw c.before.before.before.before.before.before.before.before.before.token-at.ensures at c.before.before.before.before.before.beat.ensures))
 
 same-length-6 : tie.Need-same-length-6
 same-length-6 c = search rules
@@ -65,7 +65,7 @@ same-length-8 : tie.Need-same-length-8
 same-length-8 c = search rules
 
 returns-4 : tie.Need-returns-4
-returns-4 c = rw c.before.before.before.before.before.before.before.before.before.before.before.met2.given.1 (settledLoses (rw c.before.before.before.before.before.before.before.before.before.token-at2.ensures at c.before.before.before.before.before.lose.ensures))
+returns-4 c = rw c.before.before.before.before.before.before.before.before.before.before.before.met2.given.1 (settled_loses (rw c.before.before.before.before.before.before.before.before.before.token-at2.ensures at c.before.before.before.before.before.lose.ensures))
 
 pub settle-spec : {M : Type 1} → statement M
 settle-spec =

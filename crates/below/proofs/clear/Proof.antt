@@ -3,7 +3,7 @@ use mathlib.Core.Path.{◌≡◌, refl, ◌∙◌}
 use Prim.Native.Nat.{◌≤◌, ◌-◌, ◌*◌, ◌+◌}
 use lib.ListN.{length, set, length-set}
 use Rattle.below.specs.Marks.{Cleared}
-use Rattle.below.proofs.Marking.{cleared-none, cleared_more}
+use Rattle.below.proofs.Marking.{cleared_none, cleared_more}
 use borrow.Author.Rules.{rules}
 use native.Mathlib.Omega.{arith}
 use Rattle.below.proofs.clear.Statement.{statement}
@@ -18,7 +18,7 @@ decreases-loop lists₀ used k₀ lists k =
     used - k
 
 loop-holds : tie.Need-loop-init invariant-loop decreases-loop
-loop-holds c = (omega arith, refl, cleared-none _)
+loop-holds c = (omega arith, refl, cleared_none _)
 
 cast-lists : tie.Need-overflow-cast-lists invariant-loop decreases-loop
 cast-lists c = search rules

@@ -1,5 +1,5 @@
 -- The start's list has one path.
-use Rattle.below.proofs.Marking.{count_none, count-some}
+use Rattle.below.proofs.Marking.{count_none, count_some}
 use borrow.Author.Rules.{rules}
 use Rattle.below.proofs.count_of.Statement.{statement}
 use Rattle.below.proofs.count_of.Tie as tie
@@ -26,7 +26,7 @@ shared-slice-read-result : tie.Need-shared-slice-read-result
 shared-slice-read-result c = search rules
 
 returns-2 : tie.Need-returns-2
-returns-2 c = count-some _ _ c.before.if1.false
+returns-2 c = count_some _ _ c.before.if1.false
 
 pub count-of-spec : {M : Type 1} → statement M
 count-of-spec =

@@ -3,7 +3,7 @@ use mathlib.Core.Path.{◌≡◌, refl, ◌∙◌}
 use Prim.Native.Nat.{◌≤◌, ◌-◌, ◌+◌}
 use native.Mathlib.Numerals.{add-one}
 use lib.ListN.{length}
-use Rattle.below.proofs.Filled.{DoneTo, done_none, done_next, done-stop, done_all}
+use Rattle.below.proofs.Filled.{DoneTo, done_none, done_next, done_stop, done_all}
 use native.Mathlib.Omega.{arith}
 use Rattle.below.proofs.fill_lists.Statement.{statement}
 use Rattle.below.proofs.fill_lists.Tie as tie
@@ -38,7 +38,7 @@ same-length-4 : tie.Need-same-length-4 invariant-loop decreases-loop
 same-length-4 c = c.before.before.before.before.before.before.before.before.before.fill_one.auto.1.1.1.1.1.1.1.1.1.0 ∙ c.before.before.before.before.before.before.before.before.before.before.before.before.before.before.before.loop.invariant.4
 
 returns : tie.Need-returns invariant-loop decreases-loop
-returns c = done-stop c.before.before.before.before.before.before.before.before.before.before.before.before.before.before.before.before.before.before.before.before.before.before.args.records.now c.before.before.before.before.before.before.before.before.before.before.before.before.before.before.before.before.before.before.before.before.before.before.args.labels.now c.before.before.before.before.before.before.before.before.before.before.before.before.before.before.before.before.before.before.before.before.before.before.args.gaps.now c.before.before.before.before.before.before.before.before.before.before.before.before.before.before.before.before.before.before.before.before.before.before.args.used c.before.before.before.before.before.before.before.before.before.before.before.before.before.before.before.before.before.before.before.before.before.before.args.margin c.before.before.before.before.before.before.before.before.before.before.before.before.before.before.before.before.before.before.before.before.before.before.args.cap c.before.before.before.before.before.before.before.before.before.before.before.before.before.before.before.before.before.before.before.before.before.before.args.lists.now c.before.before.before.before.before.before.before.before.before.before.before.before.before.before.before.loop.lists c.before.before.before.before.before.before.before.before.before.before.before.before.before.before.before.loop.hashes c.before.before.before.before.before.before.before.before.before.before.before.before.before.before.before.loop.nexts c.before.before.before.before.before.before.before.before.before.before.before.before.before.before.before.loop.sums c.before.before.before.before.before.before.before.before.before.before.before.before.before.before.before.before.before.before.before.before.before.before.args.places c.before.before.before.before.before.before.before.before.before.before.before.before.before.before.before.loop.k c.before.before.before.before.before.before.before.before.before.before.before.before.before.before.before.loop.free c.before.before.before.before.before.before.before.before.before.before.before.before.before.before.before.loop.invariant.5 (let z = c.before.before.before.before.before.before.before.before.before.before.before.before.before.before.loop-test.true in omega arith) c.before.before.before.before.before.before.before.before.before.before.before.before.before.before.before.before.before.before.before.before.before.before.requires.h c.before.before.before.before.before.before.before.before.before.before.before.before.before.before.before.before.before.before.before.before.before.before.requires.links c.before.before.before.before.before.before.before.before.before.before.before.before.before.before.before.before.before.before.before.before.before.before.requires.fair _ _ _ _ c.before.before.before.before.before.before.before.before.before.fill_one.result (c.before.before.before.before.before.before.before.before.before.before.before.before.before.before.before.loop.k + 1) (add-one c.before.before.before.before.before.before.before.before.before.before.before.before.before.before.before.loop.k) c.before.before.before.before.before.before.before.before.before.fill_one.ensures c.if1.true
+returns c = done_stop c.before.before.before.before.before.before.before.before.before.before.before.before.before.before.before.before.before.before.before.before.before.before.args.records.now c.before.before.before.before.before.before.before.before.before.before.before.before.before.before.before.before.before.before.before.before.before.before.args.labels.now c.before.before.before.before.before.before.before.before.before.before.before.before.before.before.before.before.before.before.before.before.before.before.args.gaps.now c.before.before.before.before.before.before.before.before.before.before.before.before.before.before.before.before.before.before.before.before.before.before.args.used c.before.before.before.before.before.before.before.before.before.before.before.before.before.before.before.before.before.before.before.before.before.before.args.margin c.before.before.before.before.before.before.before.before.before.before.before.before.before.before.before.before.before.before.before.before.before.before.args.cap c.before.before.before.before.before.before.before.before.before.before.before.before.before.before.before.before.before.before.before.before.before.before.args.lists.now c.before.before.before.before.before.before.before.before.before.before.before.before.before.before.before.loop.lists c.before.before.before.before.before.before.before.before.before.before.before.before.before.before.before.loop.hashes c.before.before.before.before.before.before.before.before.before.before.before.before.before.before.before.loop.nexts c.before.before.before.before.before.before.before.before.before.before.before.before.before.before.before.loop.sums c.before.before.before.before.before.before.before.before.before.before.before.before.before.before.before.before.before.before.before.before.before.before.args.places c.before.before.before.before.before.before.before.before.before.before.before.before.before.before.before.loop.k c.before.before.before.before.before.before.before.before.before.before.before.before.before.before.before.loop.free c.before.before.before.before.before.before.before.before.before.before.before.before.before.before.before.loop.invariant.5 (let z = c.before.before.before.before.before.before.before.before.before.before.before.before.before.before.loop-test.true in omega arith) c.before.before.before.before.before.before.before.before.before.before.before.before.before.before.before.before.before.before.before.before.before.before.requires.h c.before.before.before.before.before.before.before.before.before.before.before.before.before.before.before.before.before.before.before.before.before.before.requires.links c.before.before.before.before.before.before.before.before.before.before.before.before.before.before.before.before.before.before.before.before.before.before.requires.fair _ _ _ _ c.before.before.before.before.before.before.before.before.before.fill_one.result (c.before.before.before.before.before.before.before.before.before.before.before.before.before.before.before.loop.k + 1) (add-one c.before.before.before.before.before.before.before.before.before.before.before.before.before.before.before.loop.k) c.before.before.before.before.before.before.before.before.before.fill_one.ensures c.if1.true
 
 add-k : tie.Need-overflow-add-k invariant-loop decreases-loop
 add-k c = record { fits = let z = c.before.before.before.before.before.before.before.before.before.before.before.before.before.before.before.before.before.before.before.before.before.before.requires.walkable.few in let y = c.before.before.before.before.before.before.before.before.before.before.before.before.before.before.loop-test.true in omega arith }

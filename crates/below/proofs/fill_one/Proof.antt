@@ -1,7 +1,7 @@
 -- A list that is not wanted stays; else the two ways make it, and it has its place or none.
 use mathlib.Core.Path.{refl, sym, ◌∙◌}
-use Rattle.below.specs.Putting.{notWanted, noPlace, wasListed}
-use Rattle.below.proofs.Filled.{fill-asks}
+use Rattle.below.specs.Putting.{not_wanted, no_place, was_listed}
+use Rattle.below.proofs.Filled.{fill_asks}
 use native.Mathlib.Omega.{arith}
 use Rattle.below.proofs.fill_one.Statement.{statement}
 use Rattle.below.proofs.fill_one.Tie as tie
@@ -13,7 +13,7 @@ same_length : tie.Need-same-length
 same_length c = refl
 
 returns : tie.Need-returns
-returns c = notWanted (sym c.before.count_of.ensures ∙ c.if1.true) refl refl refl refl
+returns c = not_wanted (sym c.before.count_of.ensures ∙ c.if1.true) refl refl refl refl
 
 own-way-requires : tie.Need-own-way-requires
 own-way-requires c κs = (record { records = c.before.before.before.before.before.before.before.before.before.before.requires.walkable.records; labels = c.before.before.before.before.before.before.before.before.before.before.requires.walkable.labels; prev-low = c.before.before.before.before.before.before.before.before.before.before.requires.walkable.prev-low }, c.before.before.before.before.before.before.before.before.before.before.requires.begins, c.before.before.before.before.before.before.before.before.before.before.requires.low, c.before.before.before.before.before.before.before.before.before.before.requires.lists-long)
@@ -22,7 +22,7 @@ kept-way-requires : tie.Need-kept-way-requires
 kept-way-requires c κs = (c.before.before.before.before.before.before.before.before.before.before.before.before.requires.walkable, c.before.before.before.before.before.before.before.before.before.before.before.before.requires.gaps-long, c.before.before.before.before.before.before.before.before.before.before.before.before.requires.begins, c.before.before.before.before.before.before.before.before.before.before.before.before.requires.low, c.before.before.before.before.before.before.before.before.before.before.before.before.requires.lists-long)
 
 fill-list-requires : tie.Need-fill-list-requires
-fill-list-requires c κs = fill-asks c.before.before.before.before.before.before.before.before.before.before.before.before.before.before.before.before.requires c.before.before.before.before.before.own-way.result c.before.before.before.kept-way.result c.before.before.before.before.before.own-way.ensures c.before.before.before.kept-way.ensures
+fill-list-requires c κs = fill_asks c.before.before.before.before.before.before.before.before.before.before.before.before.before.before.before.before.requires c.before.before.before.before.before.own-way.result c.before.before.before.kept-way.result c.before.before.before.before.before.own-way.ensures c.before.before.before.kept-way.ensures
 
 same-length-2 : tie.Need-same-length-2
 same-length-2 c = refl
@@ -37,7 +37,7 @@ same-length-5 : tie.Need-same-length-5
 same-length-5 c = c.before.before.before.before.before.before.before.fill-list.auto.1.1.0
 
 returns-2 : tie.Need-returns-2
-returns-2 c = noPlace (record { own = c.before.before.before.before.before.before.before.before.before.before.before.before.before.own-way.result; kept = c.before.before.before.before.before.before.before.before.before.before.before.kept-way.result; wanted = let e = c.before.before.before.before.before.before.before.before.before.before.before.before.before.before.before.before.count_of.ensures in let d = c.before.before.before.before.before.before.before.before.before.before.before.before.before.before.before.if1.false in omega (arith, d); own-way = c.before.before.before.before.before.before.before.before.before.before.before.before.before.own-way.ensures; kept-way = c.before.before.before.before.before.before.before.before.before.before.before.kept-way.ensures; fill = rw c.if2.true at c.before.before.before.before.before.before.before.fill-list.ensures })
+returns-2 c = no_place (record { own = c.before.before.before.before.before.before.before.before.before.before.before.before.before.own-way.result; kept = c.before.before.before.before.before.before.before.before.before.before.before.kept-way.result; wanted = let e = c.before.before.before.before.before.before.before.before.before.before.before.before.before.before.before.before.count_of.ensures in let d = c.before.before.before.before.before.before.before.before.before.before.before.before.before.before.before.if1.false in omega (arith, d); own-way = c.before.before.before.before.before.before.before.before.before.before.before.before.before.own-way.ensures; kept-way = c.before.before.before.before.before.before.before.before.before.before.before.kept-way.ensures; fill = rw c.if2.true at c.before.before.before.before.before.before.before.fill-list.ensures })
 
 sub-put-list : tie.Need-overflow-sub-put-list
 sub-put-list c = c.before.before.before.before.before.before.before.before.fill-list.ensures.on c.before.if2.false
@@ -58,7 +58,7 @@ same-length-9 : tie.Need-same-length-9
 same-length-9 c = c.before.before.before.before.before.before.before.before.before.before.before.fill-list.auto.1.1.0
 
 returns-3 : tie.Need-returns-3
-returns-3 c = wasListed c.before.before.before.before.before.before.before.before.before.before.before.fill-list.result c.before.before.before.before.if2.false (record { own = c.before.before.before.before.before.before.before.before.before.before.before.before.before.before.before.before.before.own-way.result; kept = c.before.before.before.before.before.before.before.before.before.before.before.before.before.before.before.kept-way.result; wanted = let e = c.before.before.before.before.before.before.before.before.before.before.before.before.before.before.before.before.before.before.before.before.count_of.ensures in let d = c.before.before.before.before.before.before.before.before.before.before.before.before.before.before.before.before.before.before.before.if1.false in omega (arith, d); own-way = c.before.before.before.before.before.before.before.before.before.before.before.before.before.before.before.before.before.own-way.ensures; kept-way = c.before.before.before.before.before.before.before.before.before.before.before.before.before.before.before.kept-way.ensures; fill = c.before.before.before.before.before.before.before.before.before.before.before.fill-list.ensures }) c.before.before.put-list.ensures
+returns-3 c = was_listed c.before.before.before.before.before.before.before.before.before.before.before.fill-list.result c.before.before.before.before.if2.false (record { own = c.before.before.before.before.before.before.before.before.before.before.before.before.before.before.before.before.before.own-way.result; kept = c.before.before.before.before.before.before.before.before.before.before.before.before.before.before.before.kept-way.result; wanted = let e = c.before.before.before.before.before.before.before.before.before.before.before.before.before.before.before.before.before.before.before.before.count_of.ensures in let d = c.before.before.before.before.before.before.before.before.before.before.before.before.before.before.before.before.before.before.before.if1.false in omega (arith, d); own-way = c.before.before.before.before.before.before.before.before.before.before.before.before.before.before.before.before.before.own-way.ensures; kept-way = c.before.before.before.before.before.before.before.before.before.before.before.before.before.before.before.kept-way.ensures; fill = c.before.before.before.before.before.before.before.before.before.before.before.fill-list.ensures }) c.before.before.put-list.ensures
 
 pub fill-one-spec : {M : Type 1} → statement M
 fill-one-spec =

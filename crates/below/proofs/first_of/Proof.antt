@@ -1,11 +1,11 @@
 -- The start has the list 0.
-use Rattle.below.proofs.Marking.{first-none, first_some}
+use Rattle.below.proofs.Marking.{first_none, first_some}
 use borrow.Author.Rules.{rules}
 use Rattle.below.proofs.first_of.Statement.{statement}
 use Rattle.below.proofs.first_of.Tie as tie
 
 returns : tie.Need-returns
-returns c = first-none _ _ c.if1.true
+returns c = first_none _ _ c.if1.true
 
 sub-result : tie.Need-overflow-sub-result
 sub-result c = search rules

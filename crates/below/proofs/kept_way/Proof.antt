@@ -1,7 +1,7 @@
 -- The words above the next join down, with the kept arc's on top.
 use Prim.Native.Nat.{◌-◌}
 use Rattle.model.specs.Ints.{back}
-use Rattle.below.proofs.Wayside.{kept-reach}
+use Rattle.below.proofs.Wayside.{kept_reach}
 use borrow.Author.Rules.{rules}
 use native.Mathlib.Omega.{arith}
 use Rattle.below.proofs.kept_way.Statement.{statement}
@@ -50,7 +50,7 @@ shared-slice-read-t22 : tie.Need-shared-slice-read-t22
 shared-slice-read-t22 c = let w = c.before.before.before.before.before.before.before.before.before.before.before.before.requires.0.records in let v = c.before.before.before.before.before.before.before.before.before.before.before.before.requires.0.labels in search rules
 
 returns : tie.Need-returns
-returns c = kept-reach c.before.before.before.before.before.before.before.before.before.before.before.before.requires.0 c.before.before.before.before.before.before.before.before.before.before.before.before.requires.2 c.before.before.before.before.before.before.before.before.before.before.before.before.requires.3 c.before.before.before.before.before.before.before.before.kept_of.ensures c.before.before.before.before.before.before.before.first-join.ensures c.before.before.before.before.before.before.hash-above.ensures c.before.before.before.before.before.kept-word-of.ensures (back c.before.before.before.before.before.kept-word-of.result c.before.before.before.before.before.kept-word-of.type-inv) c.before.before.before.before.with-word.ensures c.before.before.first_of.ensures c.before.before.before.cost-of.ensures c.before.count-within.ensures
+returns c = kept_reach c.before.before.before.before.before.before.before.before.before.before.before.before.requires.0 c.before.before.before.before.before.before.before.before.before.before.before.before.requires.2 c.before.before.before.before.before.before.before.before.before.before.before.before.requires.3 c.before.before.before.before.before.before.before.before.kept_of.ensures c.before.before.before.before.before.before.before.first-join.ensures c.before.before.before.before.before.before.hash-above.ensures c.before.before.before.before.before.kept-word-of.ensures (back c.before.before.before.before.before.kept-word-of.result c.before.before.before.before.before.kept-word-of.type-inv) c.before.before.before.before.with-word.ensures c.before.before.first_of.ensures c.before.before.before.cost-of.ensures c.before.count-within.ensures
 
 pub kept-way-spec : {M : Type 1} → statement M
 kept-way-spec =

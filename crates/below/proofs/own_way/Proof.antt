@@ -1,7 +1,7 @@
 -- The words above the next join down.
 use lib.Ieee.{of_bits}
 use Prim.Native.Nat.{◌-◌}
-use Rattle.below.proofs.Wayside.{own-reach}
+use Rattle.below.proofs.Wayside.{own_reach}
 use borrow.Author.Rules.{rules}
 use native.Mathlib.Omega.{arith}
 use Rattle.below.proofs.own_way.Statement.{statement}
@@ -24,7 +24,7 @@ count-of-requires c κs = let z = c.before.before.before.before.before.before.re
 
 returns : tie.Need-returns
 unfolding of_bits
-returns c = own-reach c.before.before.before.before.before.before.before.requires.0 c.before.before.before.before.before.before.before.requires.1 c.before.before.before.before.before.before.before.requires.2 c.before.before.before.before.prev-of.ensures c.before.before.before.first-join.ensures c.before.before.hash-above.ensures c.before.first_of.ensures c.count_of.ensures
+returns c = own_reach c.before.before.before.before.before.before.before.requires.0 c.before.before.before.before.before.before.before.requires.1 c.before.before.before.before.before.before.before.requires.2 c.before.before.before.before.prev-of.ensures c.before.before.before.first-join.ensures c.before.before.hash-above.ensures c.before.first_of.ensures c.count_of.ensures
 
 pub own-way-spec : {M : Type 1} → statement M
 own-way-spec =

@@ -1,7 +1,7 @@
 -- Two stores.
 use lib.ListN.{length-set}
 use Prim.Native.Nat.{◌-◌, ◌*◌}
-use Rattle.below.proofs.Filled.{list-put-at}
+use Rattle.below.proofs.Filled.{list_put_at}
 use borrow.Author.Rules.{rules}
 use native.Mathlib.Omega.{arith}
 use Rattle.below.proofs.put_list.Statement.{statement}
@@ -44,7 +44,7 @@ same_length : tie.Need-same-length
 same_length c = search rules
 
 returns : tie.Need-returns
-returns c = list-put-at c.args.lists.now c.args.r c.args.first c.args.count c.requires.0 c.requires.1 (length-set c.args.lists.now ((c.args.r - 1) * 2) c.args.first)
+returns c = list_put_at c.args.lists.now c.args.r c.args.first c.args.count c.requires.0 c.requires.1 (length-set c.args.lists.now ((c.args.r - 1) * 2) c.args.first)
 
 pub put-list-spec : {M : Type 1} → statement M
 put-list-spec =

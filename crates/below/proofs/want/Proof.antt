@@ -1,12 +1,12 @@
 -- One store, of the join's count.
-use Rattle.below.proofs.Marking.{marks-none, marks-one}
+use Rattle.below.proofs.Marking.{marks_none, marks_one}
 use borrow.Author.Rules.{rules}
 use native.Mathlib.Omega.{arith}
 use Rattle.below.proofs.want.Statement.{statement}
 use Rattle.below.proofs.want.Tie as tie
 
 returns : tie.Need-returns
-returns c = marks-none _ _ (λ j l e. omega arith)
+returns c = marks_none _ _ (λ j l e. omega arith)
 
 sub-lists : tie.Need-overflow-sub-lists
 sub-lists c = search rules
@@ -30,7 +30,7 @@ same_length : tie.Need-same-length
 same_length c = search rules
 
 returns-2 : tie.Need-returns-2
-returns-2 c = marks-one _ _ c.if1.false (omega arith)
+returns-2 c = marks_one _ _ c.if1.false (omega arith)
 
 pub want-spec : {M : Type 1} → statement M
 want-spec =

@@ -1,5 +1,5 @@
 -- The end of the history's reading is its newest join.
-use Rattle.below.proofs.Marking.{end-wanted}
+use Rattle.below.proofs.Marking.{end_wanted}
 use native.Mathlib.Omega.{arith}
 use Rattle.below.proofs.want_end.Statement.{statement}
 use Rattle.below.proofs.want_end.Tie as tie
@@ -14,7 +14,7 @@ same_length : tie.Need-same-length
 same_length c = c.before.before.want.auto.0
 
 returns : tie.Need-returns
-returns c = end-wanted _ _ c.before.before.before.before.before.before.before.requires.1 c.before.before.before.first-join.ensures c.before.before.want.ensures
+returns c = end_wanted _ _ c.before.before.before.before.before.before.before.requires.1 c.before.before.before.first-join.ensures c.before.before.want.ensures
 
 pub want-end-spec : {M : Type 1} → statement M
 want-end-spec = tie.close (tie.spec first-join-requires want-requires same_length returns)

@@ -4,7 +4,7 @@ use Prim.Native.Nat.{◌≤◌, ◌-◌}
 use lib.ListN.{length}
 use Rattle.lists.specs.Tests.{next_fits}
 use Rattle.below.specs.Marks.{HeadsWanted}
-use Rattle.below.proofs.Marking.{heads-none, heads-next}
+use Rattle.below.proofs.Marking.{heads_none, heads_next}
 use native.Mathlib.Omega.{arith}
 use Rattle.below.proofs.want_heads.Statement.{statement}
 use Rattle.below.proofs.want_heads.Tie as tie
@@ -18,7 +18,7 @@ decreases-loop tokens side records labels used heads n lists₀ i₀ lists i =
     n - i
 
 loop-holds : tie.Need-loop-init invariant-loop decreases-loop
-loop-holds c = (omega arith, refl, heads-none _)
+loop-holds c = (omega arith, refl, heads_none _)
 
 mul-link-at : tie.Need-overflow-mul-link-at invariant-loop decreases-loop
 mul-link-at c = record { fits = let g = c.before.before.before.before.before.before.before.well-formed.1.1.1.1.1.0.0 in let z = c.before.before.before.before.before.before.before.requires.0.long in omega arith }
@@ -39,7 +39,7 @@ loop-less : tie.Need-loop-smaller invariant-loop decreases-loop
 loop-less c = omega arith
 
 loop-again : tie.Need-loop-preserved invariant-loop decreases-loop
-loop-again c = (omega arith, c.before.before.want-end.auto.1.1.1.0 ∙ c.before.before.before.before.before.before.before.loop.invariant.1, heads-next _ _ _ c.before.before.before.link-at.ensures c.before.before.before.before.before.before.before.loop.invariant.2 c.before.before.want-end.ensures)
+loop-again c = (omega arith, c.before.before.want-end.auto.1.1.1.0 ∙ c.before.before.before.before.before.before.before.loop.invariant.1, heads_next _ _ _ c.before.before.before.link-at.ensures c.before.before.before.before.before.before.before.loop.invariant.2 c.before.before.want-end.ensures)
 
 same_length : tie.Need-same-length invariant-loop decreases-loop
 same_length c = c.before.loop.invariant.1

@@ -1,6 +1,6 @@
 -- The margin's test.
 use Prim.Native.Nat.{◌-◌}
-use Rattle.below.proofs.Marking.{kept-cut, kept-wanted}
+use Rattle.below.proofs.Marking.{kept_cut, kept_wanted}
 use borrow.Author.Rules.{rules}
 use native.Mathlib.Omega.{arith}
 use Rattle.below.proofs.want_kept.Statement.{statement}
@@ -19,10 +19,10 @@ same_length : tie.Need-same-length
 same_length c = c.before.before.want-end.auto.1.1.1.0
 
 returns : tie.Need-returns
-returns c = kept-wanted _ _ c.before.before.before.before.before.before.cost-of.ensures c.before.before.before.before.before.if1.true c.before.before.before.kept_of.ensures c.before.before.want-end.ensures
+returns c = kept_wanted _ _ c.before.before.before.before.before.before.cost-of.ensures c.before.before.before.before.before.if1.true c.before.before.before.kept_of.ensures c.before.before.want-end.ensures
 
 returns-2 : tie.Need-returns-2
-returns-2 c = kept-cut _ c.before.cost-of.ensures c.if1.false
+returns-2 c = kept_cut _ c.before.cost-of.ensures c.if1.false
 
 pub want-kept-spec : {M : Type 1} → statement M
 want-kept-spec =

@@ -1,7 +1,7 @@
 -- Two joins, where the record is wanted.
 use Prim.Native.Nat.{◌-◌}
 use mathlib.Core.Path.{refl, ◌∙◌}
-use Rattle.below.proofs.Marking.{ways-none, ways-wanted}
+use Rattle.below.proofs.Marking.{ways_none, ways_wanted}
 use borrow.Author.Rules.{rules}
 use native.Mathlib.Omega.{arith}
 use Rattle.below.proofs.want_ways.Statement.{statement}
@@ -14,7 +14,7 @@ same_length : tie.Need-same-length
 same_length c = refl
 
 returns : tie.Need-returns
-returns c = ways-none _ c.before.count_of.ensures c.if1.true
+returns c = ways_none _ c.before.count_of.ensures c.if1.true
 
 prev-of-requires : tie.Need-prev-of-requires
 prev-of-requires c κs = let w = c.before.before.before.before.before.before.before.requires.0.records in search rules
@@ -29,7 +29,7 @@ same-length-2 : tie.Need-same-length-2
 same-length-2 c = c.before.before.Want-kept.auto.1.1.1.1.1.0 ∙ c.before.before.before.before.before.before.want-end.auto.1.1.1.0
 
 returns-2 : tie.Need-returns-2
-returns-2 c = ways-wanted _ _ _ c.before.before.before.before.before.before.before.before.before.before.count_of.ensures c.before.before.before.before.before.before.before.before.before.if1.false c.before.before.before.before.before.before.before.before.before.before.before.before.before.before.before.requires.2 c.before.before.before.before.before.before.before.prev-of.ensures c.before.before.before.before.before.before.want-end.ensures c.before.before.Want-kept.ensures
+returns-2 c = ways_wanted _ _ _ c.before.before.before.before.before.before.before.before.before.before.count_of.ensures c.before.before.before.before.before.before.before.before.before.if1.false c.before.before.before.before.before.before.before.before.before.before.before.before.before.before.before.requires.2 c.before.before.before.before.before.before.before.prev-of.ensures c.before.before.before.before.before.before.want-end.ensures c.before.before.Want-kept.ensures
 
 pub want-ways-spec : {M : Type 1} → statement M
 want-ways-spec =

@@ -1,6 +1,6 @@
 -- By the answer.
 use mathlib.Core.Path.{sym, ◌∙◌, ap}
-use Rattle.c_answers.specs.Forms.{builtVerdict}
+use Rattle.c_answers.specs.Forms.{built_verdict}
 use borrow.Author.Rules.{rules}
 use Rattle.c_answers.proofs.built_verdict.Statement.{statement}
 use Rattle.c_answers.proofs.built_verdict.Tie as tie
@@ -21,7 +21,7 @@ returns : tie.Need-returns
 returns c = search rules
 
 returns-2 : tie.Need-returns-2
-returns-2 c = c.verdict-of.ensures ∙ sym (ap builtVerdict c.before.before.built.given.1)
+returns-2 c = c.verdict-of.ensures ∙ sym (ap built_verdict c.before.before.built.given.1)
 
 pub built-verdict-spec : {M : Type 1} → statement M
 built-verdict-spec =

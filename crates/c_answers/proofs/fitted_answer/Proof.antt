@@ -1,6 +1,6 @@
 -- By the answer.
 use mathlib.Core.Path.{ap}
-use Rattle.c_answers.specs.Forms.{fittedAnswer}
+use Rattle.c_answers.specs.Forms.{fitted_answer}
 use borrow.Author.Rules.{rules}
 use Rattle.c_answers.proofs.fitted_answer.Statement.{statement}
 use Rattle.c_answers.proofs.fitted_answer.Tie as tie
@@ -27,13 +27,13 @@ verdict-of-requires-2 : tie.Need-verdict-of-requires-2
 verdict-of-requires-2 c κs = search rules
 
 returns : tie.Need-returns
-returns c = cc (ap fittedAnswer c.before.before.before.fitted.given.1)
+returns c = cc (ap fitted_answer c.before.before.before.fitted.given.1)
 
 returns-2 : tie.Need-returns-2
-returns-2 c = cc (ap fittedAnswer c.before.before.fitted2.given.1)
+returns-2 c = cc (ap fitted_answer c.before.before.fitted2.given.1)
 
 returns-3 : tie.Need-returns-3
-returns-3 c = cc (ap fittedAnswer c.before.before.fitted3.given.1)
+returns-3 c = cc (ap fitted_answer c.before.before.fitted3.given.1)
 
 pub fitted-answer-spec : {M : Type 1} → statement M
 fitted-answer-spec =

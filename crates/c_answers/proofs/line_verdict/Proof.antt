@@ -1,6 +1,6 @@
 -- By the answer.
 use mathlib.Core.Path.{sym, ap, ◌∙◌}
-use Rattle.c_answers.specs.Forms.{lineVerdict}
+use Rattle.c_answers.specs.Forms.{line_verdict}
 use borrow.Author.Rules.{rules}
 use Rattle.c_answers.proofs.line_verdict.Statement.{statement}
 use Rattle.c_answers.proofs.line_verdict.Tie as tie
@@ -18,7 +18,7 @@ accepted-verdict-requires : tie.Need-accepted-verdict-requires
 accepted-verdict-requires c κs = search rules
 
 returns : tie.Need-returns
-returns c = c.verdict-of.ensures ∙ sym (ap lineVerdict c.before.before.read.given.1)
+returns c = c.verdict-of.ensures ∙ sym (ap line_verdict c.before.before.read.given.1)
 
 returns-2 : tie.Need-returns-2
 returns-2 c = search rules

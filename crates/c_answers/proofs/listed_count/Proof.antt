@@ -1,6 +1,6 @@
 -- By the answer.
 use mathlib.Core.Path.{sym, ◌∙◌, ap}
-use Rattle.c_answers.specs.Forms.{listedCount}
+use Rattle.c_answers.specs.Forms.{listed_count}
 use borrow.Author.Rules.{rules}
 use Rattle.c_answers.proofs.listed_count.Statement.{statement}
 use Rattle.c_answers.proofs.listed_count.Tie as tie
@@ -18,10 +18,10 @@ counted-requires : tie.Need-counted-requires
 counted-requires c κs = search rules
 
 returns : tie.Need-returns
-returns c = c.no-count.ensures ∙ sym (ap listedCount c.before.before.listed.given.1)
+returns c = c.no-count.ensures ∙ sym (ap listed_count c.before.before.listed.given.1)
 
 returns-2 : tie.Need-returns-2
-returns-2 c = c.counted.ensures ∙ sym (ap listedCount c.before.before.listed2.given.1)
+returns-2 c = c.counted.ensures ∙ sym (ap listed_count c.before.before.listed2.given.1)
 
 pub listed-count-spec : {M : Type 1} → statement M
 listed-count-spec =

@@ -1,6 +1,6 @@
 -- By the answer.
 use mathlib.Core.Path.{sym, ◌∙◌, ap}
-use Rattle.c_answers.specs.Forms.{pathOf}
+use Rattle.c_answers.specs.Forms.{path_of}
 use borrow.Author.Rules.{rules}
 use Rattle.c_answers.proofs.path_of.Statement.{statement}
 use Rattle.c_answers.proofs.path_of.Tie as tie
@@ -21,13 +21,13 @@ enum-known-best-2 : tie.Need-enum-known-best-2
 enum-known-best-2 c = search rules
 
 returns : tie.Need-returns
-returns c = c.no-path.ensures ∙ sym (ap pathOf c.before.before.best.given.1)
+returns c = c.no-path.ensures ∙ sym (ap path_of c.before.before.best.given.1)
 
 returns-2 : tie.Need-returns-2
-returns-2 c = c.no-path2.ensures ∙ sym (ap pathOf c.before.enum_told.given.1)
+returns-2 c = c.no-path2.ensures ∙ sym (ap path_of c.before.enum_told.given.1)
 
 returns-3 : tie.Need-returns-3
-returns-3 c = sym (ap pathOf c.before.best2.given.1)
+returns-3 c = sym (ap path_of c.before.best2.given.1)
 
 pub path-of-spec : {M : Type 1} → statement M
 path-of-spec =

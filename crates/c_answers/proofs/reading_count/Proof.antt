@@ -1,6 +1,6 @@
 -- By the answer.
 use mathlib.Core.Path.{sym, ◌∙◌, ap}
-use Rattle.c_answers.specs.Forms.{readingCount}
+use Rattle.c_answers.specs.Forms.{reading_count}
 use borrow.Author.Rules.{rules}
 use Rattle.c_answers.proofs.reading_count.Statement.{statement}
 use Rattle.c_answers.proofs.reading_count.Tie as tie
@@ -18,10 +18,10 @@ counted-requires : tie.Need-counted-requires
 counted-requires c κs = search rules
 
 returns : tie.Need-returns
-returns c = c.no-count.ensures ∙ sym (ap readingCount c.before.before.list.given.1)
+returns c = c.no-count.ensures ∙ sym (ap reading_count c.before.before.list.given.1)
 
 returns-2 : tie.Need-returns-2
-returns-2 c = c.counted.ensures ∙ sym (ap readingCount c.before.before.list2.given.1)
+returns-2 c = c.counted.ensures ∙ sym (ap reading_count c.before.before.list2.given.1)
 
 pub reading-count-spec : {M : Type 1} → statement M
 reading-count-spec =

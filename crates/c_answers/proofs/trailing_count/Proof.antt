@@ -1,6 +1,6 @@
 -- By the answer.
 use mathlib.Core.Path.{sym, ◌∙◌, ap}
-use Rattle.c_answers.specs.Forms.{trailingCount}
+use Rattle.c_answers.specs.Forms.{trailing_count}
 use borrow.Author.Rules.{rules}
 use Rattle.c_answers.proofs.trailing_count.Statement.{statement}
 use Rattle.c_answers.proofs.trailing_count.Tie as tie
@@ -18,10 +18,10 @@ counted-requires : tie.Need-counted-requires
 counted-requires c κs = search rules
 
 returns : tie.Need-returns
-returns c = c.no-count.ensures ∙ sym (ap trailingCount c.before.before.t.given.1)
+returns c = c.no-count.ensures ∙ sym (ap trailing_count c.before.before.t.given.1)
 
 returns-2 : tie.Need-returns-2
-returns-2 c = c.counted.ensures ∙ sym (ap trailingCount c.before.before.t2.given.1)
+returns-2 c = c.counted.ensures ∙ sym (ap trailing_count c.before.before.t2.given.1)
 
 pub trailing-count-spec : {M : Type 1} → statement M
 trailing-count-spec =

@@ -1,6 +1,6 @@
 -- By the place.
 use mathlib.Core.Path.{sym, ap}
-use Rattle.c_answers.specs.Forms.{verdictAt}
+use Rattle.c_answers.specs.Forms.{verdict_at}
 use borrow.Author.Rules.{rules}
 use Rattle.c_answers.proofs.verdict_of.Statement.{statement}
 use Rattle.c_answers.proofs.verdict_of.Tie as tie
@@ -18,16 +18,16 @@ enum-known-place-3 : tie.Need-enum-known-place-3
 enum-known-place-3 c = search rules
 
 returns : tie.Need-returns
-returns c = sym (ap (verdictAt _) c.enum_told.given.1)
+returns c = sym (ap (verdict_at _) c.enum_told.given.1)
 
 returns-2 : tie.Need-returns-2
-returns-2 c = sym (ap (verdictAt _) c.before.place.given.1)
+returns-2 c = sym (ap (verdict_at _) c.before.place.given.1)
 
 returns-3 : tie.Need-returns-3
-returns-3 c = sym (ap (verdictAt _) c.before.place2.given.1)
+returns-3 c = sym (ap (verdict_at _) c.before.place2.given.1)
 
 returns-4 : tie.Need-returns-4
-returns-4 c = sym (ap (verdictAt _) c.before.place3.given.1)
+returns-4 c = sym (ap (verdict_at _) c.before.place3.given.1)
 
 pub verdict-of-spec : {M : Type 1} → statement M
 verdict-of-spec =

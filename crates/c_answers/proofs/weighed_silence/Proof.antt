@@ -1,6 +1,6 @@
 -- By the answer.
 use mathlib.Core.Path.{sym, ◌∙◌, ap}
-use Rattle.c_answers.specs.Forms.{weighedOf}
+use Rattle.c_answers.specs.Forms.{weighed_of}
 use borrow.Author.Rules.{rules}
 use Rattle.c_answers.proofs.weighed_silence.Statement.{statement}
 use Rattle.c_answers.proofs.weighed_silence.Tie as tie
@@ -18,10 +18,10 @@ silence-at-requires : tie.Need-silence-at-requires
 silence-at-requires c κs = search rules
 
 returns : tie.Need-returns
-returns c = c.no-silence.ensures ∙ sym (ap weighedOf c.before.before.w.given.1)
+returns c = c.no-silence.ensures ∙ sym (ap weighed_of c.before.before.w.given.1)
 
 returns-2 : tie.Need-returns-2
-returns-2 c = c.silence-at.ensures ∙ sym (ap weighedOf c.before.before.w2.given.1)
+returns-2 c = c.silence-at.ensures ∙ sym (ap weighed_of c.before.before.w2.given.1)
 
 pub weighed-silence-spec : {M : Type 1} → statement M
 weighed-silence-spec =

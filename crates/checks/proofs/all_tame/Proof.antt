@@ -10,7 +10,7 @@ use borrow.Author.Tests.{not-true, not-false}
 use Rattle.lists.specs.Lists.{all}
 use Rattle.lists.specs.Tests.{next_fits}
 use Rattle.real32.specs.Small.{tame}
-use Rattle.checks.specs.Frame.{all-next}
+use Rattle.checks.specs.Frame.{all_next}
 use Rattle.checks.proofs.all_tame.Statement.{statement}
 use Rattle.checks.proofs.all_tame.Tie as tie
 
@@ -37,7 +37,7 @@ is-tame-requires c κs = search rules
 returns : tie.Need-returns invariant-loop decreases-loop
 returns c = let ls = c.before.before.before.before.before.before.args.loglikes.now in
     let i = c.before.before.before.before.loop.i in
-    sym (c.before.before.before.before.loop.invariant.1 ∙ all-next tame ls i nan c.before.before.before.loop-test.true ∙ ap (λ (b : Bool). b && all tame (drop (i + 1) ls)) (sym c.before.is-tame.ensures ∙ not-true _ c.if1.true))
+    sym (c.before.before.before.before.loop.invariant.1 ∙ all_next tame ls i nan c.before.before.before.loop-test.true ∙ ap (λ (b : Bool). b && all tame (drop (i + 1) ls)) (sym c.before.is-tame.ensures ∙ not-true _ c.if1.true))
 
 add-i : tie.Need-overflow-add-i invariant-loop decreases-loop
 add-i c = record { fits = next_fits _ _ _ c.before.before.before.loop-test.true c.before.before.before.before.before.before.well-formed.0.0 }
@@ -49,7 +49,7 @@ loop-again : tie.Need-loop-preserved invariant-loop decreases-loop
 loop-again c = let ls = c.before.before.before.before.before.before.args.loglikes.now in
     let i = c.before.before.before.before.loop.i in
     let h = c.before.before.before.loop-test.true in
-    (omega arith, c.before.before.before.before.loop.invariant.1 ∙ all-next tame ls i nan h ∙ ap (λ (b : Bool). b && all tame (drop (i + 1) ls)) (sym c.before.is-tame.ensures ∙ not-false _ c.if1.false))
+    (omega arith, c.before.before.before.before.loop.invariant.1 ∙ all_next tame ls i nan h ∙ ap (λ (b : Bool). b && all tame (drop (i + 1) ls)) (sym c.before.is-tame.ensures ∙ not-false _ c.if1.false))
 
 returns-2 : tie.Need-returns-2 invariant-loop decreases-loop
 returns-2 c = let ls = c.before.before.before.args.loglikes.now in sym (c.before.loop.invariant.1 ∙ ap (all tame) (drop_of_length-le ls {i = c.before.loop.i} c.loop-test.false))

@@ -3,7 +3,7 @@ use mathlib.Core.Path.{◌≡◌, refl}
 use Prim.Native.Nat.{◌≤◌, ◌-◌}
 use lib.ListN.{length, length-set}
 use Rattle.compaction.specs.Marks.{Cleared}
-use Rattle.compaction.proofs.Marking.{cleared-none, cleared_more}
+use Rattle.compaction.proofs.Marking.{cleared_none, cleared_more}
 use Rattle.compaction.proofs.clear_marks.Statement.{statement}
 use Rattle.compaction.proofs.clear_marks.Tie as tie
 use borrow.Author.Rules.{rules}
@@ -16,7 +16,7 @@ abbrev decreases-loop : tie.decreases-loop
 decreases-loop records₀ used k₀ records k = used - k
 
 loop-holds : tie.Need-loop-init invariant-loop decreases-loop
-loop-holds c = (omega arith, refl, cleared-none _)
+loop-holds c = (omega arith, refl, cleared_none _)
 
 cast-records : tie.Need-overflow-cast-records invariant-loop decreases-loop
 cast-records c = search rules

@@ -1,6 +1,6 @@
 -- Marking, sliding, renumbering.
 use Rattle.records.specs.Layout.{store}
-use Rattle.compaction.proofs.Compacting.{marked-shape, compacted}
+use Rattle.compaction.proofs.Compacting.{marked_shape, compacted}
 use borrow.Author.Rules.{rules}
 use Rattle.compaction.proofs.compact.Statement.{statement}
 use Rattle.compaction.proofs.compact.Tie as tie
@@ -13,7 +13,7 @@ slide-requires : tie.Need-slide-requires
 slide-requires c κs =
     let s = c.before.before.before.before.before.before.before.before.before.before.before in
     let m = c.before.before.before.before.before.mark-live in
-    (marked-shape _ s.args.tokens.now m.new.0 _ _ _ s.requires m.ensures m.auto.0, s.requires.few)
+    (marked_shape _ s.args.tokens.now m.new.0 _ _ _ s.requires m.ensures m.auto.0, s.requires.few)
 
 renumber-requires : tie.Need-renumber-requires
 renumber-requires c κs =

@@ -1,5 +1,5 @@
 -- Two marks, where the record has one.
-use Rattle.compaction.proofs.Marking.{hand-none, hand-some}
+use Rattle.compaction.proofs.Marking.{hand_none, hand_some}
 use borrow.Author.Rules.{rules}
 use Rattle.compaction.proofs.hand_on.Statement.{statement}
 use Rattle.compaction.proofs.hand_on.Tie as tie
@@ -11,7 +11,7 @@ same_length : tie.Need-same-length
 same_length c = search rules
 
 returns : tie.Need-returns
-returns c = hand-none _ _ _ c.before.new-number.ensures c.if1.true
+returns c = hand_none _ _ _ c.before.new-number.ensures c.if1.true
 
 prev-of-requires : tie.Need-prev-of-requires
 prev-of-requires c κs = search rules
@@ -36,7 +36,7 @@ returns-2 c =
     let p = c.before.before.before.before.before.before.before.before.before.before.prev-of in
     let w = c.before.before.before.before.before.before.before.before.before.before.before.before.if1.false in
     let i = c.before.before.before.before.before.before.before.before.before.before.before.before.before.new-number.ensures in
-    hand-some _ _ _ i w _ _ _ _ p.ensures q.ensures n.ensures m.ensures
+    hand_some _ _ _ i w _ _ _ _ p.ensures q.ensures n.ensures m.ensures
 
 pub hand_on_spec : {M : Type 1} → statement M
 hand_on_spec =

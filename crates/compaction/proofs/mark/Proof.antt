@@ -1,12 +1,12 @@
 -- One store, of the record's mark.
-use Rattle.compaction.proofs.Marking.{mark-none, mark-some}
+use Rattle.compaction.proofs.Marking.{mark_none, mark_some}
 use borrow.Author.Rules.{rules}
 use Rattle.compaction.proofs.mark.Statement.{statement}
 use Rattle.compaction.proofs.mark.Tie as tie
 use native.Mathlib.Omega.{arith}
 
 returns : tie.Need-returns
-returns c = mark-none _ _ (λ j l e. omega arith)
+returns c = mark_none _ _ (λ j l e. omega arith)
 
 sub-records : tie.Need-overflow-sub-records
 sub-records c = search rules
@@ -30,7 +30,7 @@ same_length : tie.Need-same-length
 same_length c = search rules
 
 returns-2 : tie.Need-returns-2
-returns-2 c = mark-some _ _ c.if1.false (omega arith)
+returns-2 c = mark_some _ _ c.if1.false (omega arith)
 
 pub mark_spec : {M : Type 1} → statement M
 mark_spec =

@@ -5,9 +5,9 @@ use native.Mathlib.Omega.{arith}
 use borrow.Author.Rules.{rules}
 use lib.ListN.{length, get_or}
 use Rattle.lists.specs.Tests.{case}
-use Rattle.tokens.specs.Held.{some-held, none-held, held-is}
+use Rattle.tokens.specs.Held.{some_held, none_held, held_is}
 use Rattle.compaction.specs.Marks.{Held, MarksPut}
-use Rattle.compaction.proofs.Marking.{held_none, held-skip, held_more}
+use Rattle.compaction.proofs.Marking.{held_none, held_skip, held_more}
 use Rattle.compaction.proofs.mark_held.Statement.{statement}
 use Rattle.compaction.proofs.mark_held.Tie as tie
 
@@ -39,7 +39,7 @@ shared-slice-read-mark c = search rules
 
 mark-requires : tie.Need-mark-requires invariant-loop decreases-loop
 mark-requires c κs = let p = c.before.before.before.before.before.loop.p in
-    let e = held-is c.before.before.before.before.before.before.before.before.args.tokens.now p (some-held _ (sym c.before.before.before.has-token.ensures ∙ c.before.before.if1.true)) in
+    let e = held_is c.before.before.before.before.before.before.before.before.args.tokens.now p (some_held _ (sym c.before.before.before.has-token.ensures ∙ c.before.before.if1.true)) in
     omega (arith, e, c.before.before.before.before.before.before.before.before.requires.1 p c.before.before.before.before.loop-test.true)
 
 add-p : tie.Need-overflow-add-p invariant-loop decreases-loop
@@ -54,11 +54,11 @@ loop-again c = let l = c.before.before.before.loop in
     case c.if1.branch
     (λ w.
     let q : c.if1.records ≡ w.3.last.0 = w.6 in
-    let e = held-is tk l.p (some-held _ (sym c.before.has-token.ensures ∙ w.0.taken)) in
+    let e = held_is tk l.p (some_held _ (sym c.before.has-token.ensures ∙ w.0.taken)) in
     (omega arith, rw q (w.3.kept.0 ∙ l.invariant.1), rw q (held_more tk _ _ _ l.invariant.2 (get_or tk (l.p * 4) 0) _ e w.3.ensures)))
     (λ w.
     let q : c.if1.records ≡ l.records = w.1 in
-    (omega arith, rw q l.invariant.1, rw q (held-skip tk _ _ _ l.invariant.2 (none-held _ (sym c.before.has-token.ensures ∙ w.0.left)))))
+    (omega arith, rw q l.invariant.1, rw q (held_skip tk _ _ _ l.invariant.2 (none_held _ (sym c.before.has-token.ensures ∙ w.0.left)))))
 
 same_length : tie.Need-same-length invariant-loop decreases-loop
 same_length c = c.before.loop.invariant.1

@@ -1,5 +1,5 @@
 -- 0 has no mark, and record k + 1 has its own.
-use Rattle.compaction.proofs.Marking.{new_none, new-some}
+use Rattle.compaction.proofs.Marking.{new_none, new_some}
 use borrow.Author.Rules.{rules}
 use Rattle.compaction.proofs.new_number.Statement.{statement}
 use Rattle.compaction.proofs.new_number.Tie as tie
@@ -26,7 +26,7 @@ shared-slice-read-result : tie.Need-shared-slice-read-result
 shared-slice-read-result c = search rules
 
 returns-2 : tie.Need-returns-2
-returns-2 c = new-some _ _ c.before.if1.false
+returns-2 c = new_some _ _ c.before.if1.false
 
 pub new-number-spec : {M : Type 1} → statement M
 new-number-spec =

@@ -5,9 +5,9 @@ use native.Mathlib.Omega.{arith}
 use borrow.Author.Rules.{rules}
 use lib.ListN.{length, get_or, set, length-set}
 use Rattle.lists.specs.Tests.{case}
-use Rattle.tokens.specs.Held.{some-held, none-held, held-is}
+use Rattle.tokens.specs.Held.{some_held, none_held, held_is}
 use Rattle.compaction.specs.Carried.{Renumbered}
-use Rattle.compaction.proofs.Compacting.{renumbered-none, renumbered-skip, renumbered-more}
+use Rattle.compaction.proofs.Compacting.{renumbered_none, renumbered_skip, renumbered_more}
 use Rattle.compaction.proofs.renumber.Statement.{statement}
 use Rattle.compaction.proofs.renumber.Tie as tie
 
@@ -20,7 +20,7 @@ decreases-loop records tokens₀ places place₀ tokens place =
     places - place
 
 loop-holds : tie.Need-loop-init invariant-loop decreases-loop
-loop-holds c = (omega arith, refl, renumbered-none c.before.before.args.records.now _)
+loop-holds c = (omega arith, refl, renumbered_none c.before.before.args.records.now _)
 
 has-token-requires : tie.Need-has-token-requires invariant-loop decreases-loop
 has-token-requires c κs = search rules
@@ -39,7 +39,7 @@ slice-read-new-number c = search rules
 
 new-number-requires : tie.Need-new-number-requires invariant-loop decreases-loop
 new-number-requires c κs = let l = c.before.before.before.before.before.loop in
-    let e = held-is l.tokens l.place (some-held _ (sym c.before.before.has-token.ensures ∙ c.before.if1.true)) in
+    let e = held_is l.tokens l.place (some_held _ (sym c.before.before.has-token.ensures ∙ c.before.if1.true)) in
     omega (arith, e, l.invariant.2.others.beyond l.place (omega arith), c.before.before.before.before.before.before.before.before.requires.1 l.place c.before.before.before.before.loop-test.true)
 
 mul-tokens : tie.Need-overflow-mul-tokens invariant-loop decreases-loop
@@ -60,11 +60,11 @@ loop-again c = let l = c.before.before.before.before.loop in
     case c.if1.branch
     (λ w.
     let q : c.if1.tokens ≡ set l.tokens (l.place * 4) w.2.result = w.3 in
-    let e = held-is l.tokens l.place (some-held _ (sym c.before.has-token.ensures ∙ w.0.taken)) in
-    (omega arith, rw q (simp length-set l.invariant.1), rw q (renumbered-more rs _ l.tokens l.place l.invariant.2 w.2.result (omega arith) (get_or l.tokens (l.place * 4) 0) e w.2.ensures)))
+    let e = held_is l.tokens l.place (some_held _ (sym c.before.has-token.ensures ∙ w.0.taken)) in
+    (omega arith, rw q (simp length-set l.invariant.1), rw q (renumbered_more rs _ l.tokens l.place l.invariant.2 w.2.result (omega arith) (get_or l.tokens (l.place * 4) 0) e w.2.ensures)))
     (λ w.
     let q : c.if1.tokens ≡ l.tokens = w.1 in
-    (omega arith, rw q l.invariant.1, rw q (renumbered-skip rs _ _ _ l.invariant.2 (none-held _ (sym c.before.has-token.ensures ∙ w.0.left)))))
+    (omega arith, rw q l.invariant.1, rw q (renumbered_skip rs _ _ _ l.invariant.2 (none_held _ (sym c.before.has-token.ensures ∙ w.0.left)))))
 
 same_length : tie.Need-same-length invariant-loop decreases-loop
 same_length c = c.before.loop.invariant.1

@@ -4,7 +4,7 @@ use Prim.Native.Nat.{◌≤◌, ◌-◌}
 use lib.ListN.{length}
 use Rattle.records.specs.Layout.{store}
 use Rattle.compaction.specs.Slide.{Slid}
-use Rattle.compaction.proofs.Slides.{slid-none, next_low}
+use Rattle.compaction.proofs.Slides.{slid_none, next_low}
 use Rattle.compaction.proofs.slide.Statement.{statement}
 use Rattle.compaction.proofs.slide.Tie as tie
 use borrow.Author.Rules.{rules}
@@ -18,7 +18,7 @@ abbrev decreases-loop : tie.decreases-loop
 decreases-loop records₀ labels₀ gaps₀ used n₀ k₀ records labels gaps n k = used - k
 
 loop-holds : tie.Need-loop-init invariant-loop decreases-loop
-loop-holds c = (omega arith, omega arith, refl, refl, refl, slid-none _)
+loop-holds c = (omega arith, omega arith, refl, refl, refl, slid_none _)
 
 slide-one-requires : tie.Need-slide-one-requires invariant-loop decreases-loop
 slide-one-requires c κs =

@@ -1,8 +1,8 @@
 -- A record without a mark stays behind; one with a mark moves, slice by slice, with the new numbers of what it names.
 use mathlib.Core.Path.{◌≡◌, sym, ◌∙◌, ap}
 use Prim.Native.Nat.{◌+◌, ◌-◌}
-use Rattle.records.specs.Layout.{store, prevAt, kept_at}
-use Rattle.compaction.proofs.Slides.{one-stays, one-moves}
+use Rattle.records.specs.Layout.{store, prev_at, kept_at}
+use Rattle.compaction.proofs.Slides.{one_stays, one_moves}
 use borrow.Author.Rules.{rules}
 use Rattle.compaction.proofs.slide_one.Statement.{statement}
 use Rattle.compaction.proofs.slide_one.Tie as tie
@@ -21,7 +21,7 @@ returns : tie.Need-returns
 returns c =
     let s = c.before.before.before.before.before in
     let a = s.args in
-    one-stays (store a.records.now a.labels.now a.gaps.now) a.k a.n s.requires.0.0 (sym c.before.new-number.ensures ∙ c.if1.true)
+    one_stays (store a.records.now a.labels.now a.gaps.now) a.k a.n s.requires.0.0 (sym c.before.new-number.ensures ∙ c.if1.true)
 
 prev-of-requires : tie.Need-prev-of-requires
 prev-of-requires c κs = search rules
@@ -33,7 +33,7 @@ new-number-requires-2 : tie.Need-new-number-requires-2
 new-number-requires-2 c κs =
     let s = c.before.before.before.before.before.before.before.before.before.before in
     let e : s.args.k + 1 - 1 ≡ s.args.k = omega arith in
-    omega (arith, ap (prevAt s.args.records.now) e, c.before.before.before.prev-of.ensures, s.requires.0.2)
+    omega (arith, ap (prev_at s.args.records.now) e, c.before.before.before.prev-of.ensures, s.requires.0.2)
 
 new-number-requires-3 : tie.Need-new-number-requires-3
 new-number-requires-3 c κs =
@@ -74,7 +74,7 @@ returns-2 c =
     let b = c.before.before.before.before.before.before.before.before.before.before.before.before.before.before.before.kept_of in
     let d = c.before.before.before.before.before.before.before.before.before.before.before.before.before.before.before.before.before.prev-of in
     let n = c.before.before.before.before.before.before.before.before.before.before.before.before.before.before.before.before.before.before.before.before.new-number in
-    one-moves (store a.records.now a.labels.now a.gaps.now) a.k a.n s.requires.0.0 p.result q.result d.result b.result
+    one_moves (store a.records.now a.labels.now a.gaps.now) a.k a.n s.requires.0.0 p.result q.result d.result b.result
     (λ e. c.before.before.before.before.before.before.before.before.before.before.before.before.before.before.before.before.before.before.before.if1.false (n.ensures ∙ e)) s.requires.1.0 s.requires.1.1 s.requires.1.2 d.ensures b.ensures p.ensures q.ensures
     (store mn.new.0 ml.new.0 mg.new.0) (λ i. record { records = mn.ensures i; labels = ml.ensures i; gaps = mg.ensures i })
 

@@ -8,7 +8,7 @@ use borrow.Fn.Kinds.{In}
 use borrow.Fn.PlainCycle.{Measures, is, falls, and}
 use lib.ListN.{length-set}
 use Rattle.decimals.specs.Decimal.{decimal}
-use Rattle.decimals.specs.RoundTrip.{decimal-one, decimal-more, length-one, length_more}
+use Rattle.decimals.specs.RoundTrip.{decimal_one, decimal_more, length_one, length_more}
 use Rattle.decimals.specs.Stored.{stored_more}
 use Rattle.decimals.proofs.write_decimal.Reads as write-decimal
 use Rattle.decimals.proofs.write_decimal.Kinds as write-decimal-kinds
@@ -33,7 +33,7 @@ add-out : (t : ℕ) → write-decimal-lts.Need-overflow-add-out (asked-below t, 
 add-out t c = omega arith
 
 slice-write-out : (t : ℕ) → write-decimal-lts.Need-slice-write-out (asked-below t, write-decimal.Post) (given-at t) write-decimal.Post
-slice-write-out t c = let n = c.before.before.args.number in omega (arith, length-one n (omega arith))
+slice-write-out t c = let n = c.before.before.args.number in omega (arith, length_one n (omega arith))
 
 add-result : (t : ℕ) → write-decimal-lts.Need-overflow-add-result (asked-below t, write-decimal.Post) (given-at t) write-decimal.Post
 add-result t c = omega arith
@@ -45,7 +45,7 @@ returns : (t : ℕ) → write-decimal-lts.Need-returns (asked-below t, write-dec
 returns t c =
     let n = c.before.before.args.number in
     let h : n < 10 = omega arith in
-    record { behind = omega (arith, length-one n h); written = rw (decimal-one n h) }
+    record { behind = omega (arith, length_one n h); written = rw (decimal_one n h) }
 
 write-decimal-requires : (t : ℕ) → write-decimal-lts.Need-write-decimal-requires (asked-below t, write-decimal.Post) (given-at t) write-decimal.Post
 write-decimal-requires t c κs = let n = c.before.before.before.args.number in omega (arith, length_more n (omega arith) (omega arith))
@@ -72,7 +72,7 @@ returns-2 t c =
     let call = c.before.before.write-decimal in
     let h : 10 ≤ n = omega arith in
     let f : n < 2 ^ 32 = omega arith in
-    rw (decimal-more n h f) (stored_more (decimal (n / 10)) ((48 + n % 10) ∷ []) call.ensures (record { behind = refl; written = refl }))
+    rw (decimal_more n h f) (stored_more (decimal (n / 10)) ((48 + n % 10) ∷ []) call.ensures (record { behind = refl; written = refl }))
 
 pub +write-decimal-spec : {M : Type 1} → statement M
 +write-decimal-spec = close μ-write-decimal (λ t. write-decimal-lts.spec (asked-below t, write-decimal.Post) (given-at t) write-decimal.Post (cast-out t) (add-out t) (slice-write-out t) (add-result t) (same_length t) (returns t) (write-decimal-requires t) (cast-out-2 t) (add-out-2 t) (slice-write-out-2 t) (add-result-2 t) (same-length-2 t) (returns-2 t))

@@ -5,10 +5,10 @@ use borrow.Author.Rules.{rules}
 use lib.ListN.{take, length-take}
 use Rattle.lists.specs.Tests.{never}
 use Rattle.decimals.specs.declared.Numbers.{Numbers}
-use Rattle.decimals.specs.Numbers.{numbersIn, none}
+use Rattle.decimals.specs.Numbers.{numbers_in, none}
 use Rattle.decimals.specs.Decimal.{decimal}
-use Rattle.decimals.specs.RoundTrip.{decimal-length, decimal-read}
-use Rattle.decimals.specs.Stored.{stored-front}
+use Rattle.decimals.specs.RoundTrip.{decimal-length, decimal_read}
+use Rattle.decimals.specs.Stored.{stored_front}
 use Rattle.decimals.proofs.read_decimal.Statement.{statement}
 use Rattle.decimals.proofs.read_decimal.Tie as tie
 
@@ -35,7 +35,7 @@ written : (c : tie.After-same) → take c.before.before.before.write-decimal.res
 written c =
     let call = c.before.before.before.write-decimal in
     let n = c.before.before.before.before.before.numbers-in.result.third in
-    stored-front (decimal n) call.ensures (omega (arith, decimal-length n))
+    stored_front (decimal n) call.ensures (omega (arith, decimal-length n))
 
 returns : tie.Need-returns
 returns c = (omega arith, sym (written c.before) ∙ c.before.same.ensures.0 c.if1.true)
@@ -45,7 +45,7 @@ returns-2 c n f d =
     let s = c.before.same in
     let found = c.before.before.before.before.before.before.numbers-in in
     let bs = c.before.before.before.before.before.before.before.before.args.bytes.now in
-    let e : found.result.third ≡ n = ap (λ (x : Numbers). x.third) (found.ensures ∙ ap numbersIn (sym d) ∙ decimal-read n none f refl) in
+    let e : found.result.third ≡ n = ap (λ (x : Numbers). x.third) (found.ensures ∙ ap numbers_in (sym d) ∙ decimal_read n none f refl) in
     never (sym c.if1.false ∙ s.ensures.1 (written c.before ∙ ap decimal e ∙ d))
 
 pub read-decimal-spec : {M : Type 1} → statement M

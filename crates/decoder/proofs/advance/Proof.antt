@@ -5,7 +5,7 @@ use native.Mathlib.Omega.{arith}
 use Rattle.refusals.specs.declared.Place.TheVariants.{AtFrames}
 use Rattle.arrivals.specs.declared.Setting.{Setting}
 use Rattle.decoder.specs.declared.Called.TheVariants.{Refused}
-use Rattle.decoder.specs.Frame.{a-fault, no-fault, frame_refused, can, run-asks, frame_on, frame_back}
+use Rattle.decoder.specs.Frame.{a_fault, no_fault, frame_refused, can, run_asks, frame_on, frame_back}
 use borrow.Author.Rules.{rules}
 use Rattle.decoder.proofs.advance.Statement.{statement}
 use Rattle.decoder.proofs.advance.Tie as tie
@@ -20,7 +20,7 @@ returns : tie.Need-returns
 returns c =
     let d = c.before.before.before.before.before.before.before.before.before.before.before.before.before.before.args.decoder in
     record {
-      answer = λ g s l fs st R. frame_refused R _ _ (a-fault R _ _ c.before.before.check-frame.ensures c.before.if1.true) _ c.refused-at.ensures;
+      answer = λ g s l fs st R. frame_refused R _ _ (a_fault R _ _ c.before.before.check-frame.ensures c.before.if1.true) _ c.refused-at.ensures;
       untouched = λ z. record { answer = c.refused-at.ensures ∙ ap (λ (n : ℕ). Refused d (record { number = n; place = AtFrames d.frames })) c.before.before.check-frame.ensures; stores = refl; queue = refl; scratch = refl };
     }
 
@@ -28,7 +28,7 @@ setting-of-requires : tie.Need-setting-of-requires
 setting-of-requires c κs = search rules
 
 run-frame-requires : tie.Need-run-frame-requires
-run-frame-requires c κs = (run-asks c.before.before.before.before.before.before.before.before.before.before.before.before.before.before.before.before.before.before.before.before.before.before.requires.left.is _ (no-fault c.before.before.before.before.before.before.before.before.before.before.before.before.before.before.before.before.before.before.before.before.before.before.requires.left.is _ _ c.before.before.before.before.before.before.before.before.before.before.check-frame.ensures c.before.before.before.before.before.before.before.before.before.if1.false) _ refl _ c.setting-of.ensures _ refl, let e = ap (λ (s : Setting). s.states) c.setting-of.ensures in let z = c.before.before.before.before.before.before.before.before.before.before.before.before.before.before.before.before.before.before.before.before.before.before.requires.wide in omega arith)
+run-frame-requires c κs = (run_asks c.before.before.before.before.before.before.before.before.before.before.before.before.before.before.before.before.before.before.before.before.before.before.requires.left.is _ (no_fault c.before.before.before.before.before.before.before.before.before.before.before.before.before.before.before.before.before.before.before.before.before.before.requires.left.is _ _ c.before.before.before.before.before.before.before.before.before.before.check-frame.ensures c.before.before.before.before.before.before.before.before.before.if1.false) _ refl _ c.setting-of.ensures _ refl, let e = ap (λ (s : Setting). s.states) c.setting-of.ensures in let z = c.before.before.before.before.before.before.before.before.before.before.before.before.before.before.before.before.before.before.before.before.before.before.requires.wide in omega arith)
 
 enum-known-n : tie.Need-enum-known-n
 enum-known-n c = search rules
@@ -44,7 +44,7 @@ enum-known-w : tie.Need-enum-known-w
 enum-known-w c = search rules
 
 add_turned : tie.Need-overflow-add-turned
-add_turned c = let R = c.before.before.before.before.before.before.before.before.before.before.before.before.before.before.before.before.before.before.before.before.before.before.before.before.before.before.before.before.before.before.before.before.before.before.before.before.before.before.before.before.requires.left.is in let z = (can R c.before.before.before.before.before.before.before.before.before.before.before.before.before.before.before.before.before.before.before.before.before.before.before.before.before.before.before.before.before.before.before.before.before.before.before.before.before.before.before.before.args.loglikes.now (no-fault R c.before.before.before.before.before.before.before.before.before.before.before.before.before.before.before.before.before.before.before.before.before.before.before.before.before.before.before.before.before.before.before.before.before.before.before.before.before.before.before.before.args.loglikes.now _ c.before.before.before.before.before.before.before.before.before.before.before.before.before.before.before.before.before.before.before.before.before.before.before.before.before.before.before.before.check-frame.ensures c.before.before.before.before.before.before.before.before.before.before.before.before.before.before.before.before.before.before.before.before.before.before.before.before.before.before.before.if1.false)).few in let k = R.frames-are in record { fits = omega arith }
+add_turned c = let R = c.before.before.before.before.before.before.before.before.before.before.before.before.before.before.before.before.before.before.before.before.before.before.before.before.before.before.before.before.before.before.before.before.before.before.before.before.before.before.before.before.requires.left.is in let z = (can R c.before.before.before.before.before.before.before.before.before.before.before.before.before.before.before.before.before.before.before.before.before.before.before.before.before.before.before.before.before.before.before.before.before.before.before.before.before.before.before.before.args.loglikes.now (no_fault R c.before.before.before.before.before.before.before.before.before.before.before.before.before.before.before.before.before.before.before.before.before.before.before.before.before.before.before.before.before.before.before.before.before.before.before.before.before.before.before.before.args.loglikes.now _ c.before.before.before.before.before.before.before.before.before.before.before.before.before.before.before.before.before.before.before.before.before.before.before.before.before.before.before.before.check-frame.ensures c.before.before.before.before.before.before.before.before.before.before.before.before.before.before.before.before.before.before.before.before.before.before.before.before.before.before.before.if1.false)).few in let k = R.frames-are in record { fits = omega arith }
 
 turned-requires : tie.Need-turned-requires
 turned-requires c κs = c.before.before.before.before.before.before.before.before.before.before.before.before.before.before.before.before.before.before.before.before.before.before.before.before.before.before.before.before.before.before.before.before.before.before.before.before.before.before.before.before.requires.left.is.fixed.side
@@ -73,7 +73,7 @@ same-length-7 c = c.before.before.before.before.before.before.before.before.befo
 returns-2 : tie.Need-returns-2
 returns-2 c =
     record {
-      answer = λ g s l fs st R. frame_back R _ (no-fault R _ _ c.before.before.before.before.before.before.before.before.before.before.before.before.before.before.before.before.before.before.before.before.before.before.before.before.before.before.before.before.before.before.before.check-frame.ensures c.before.before.before.before.before.before.before.before.before.before.before.before.before.before.before.before.before.before.before.before.before.before.before.before.before.before.before.before.before.before.if1.false) _ refl _ c.before.before.before.before.before.before.before.before.before.before.before.before.before.before.before.before.before.before.before.before.before.setting-of.ensures _ refl _ (record { tokens = c.before.before.before.before.before.before.before.before.before.before.before.before.before.before.before.before.before.before.before.before.run-frame.auto.0; sums = c.before.before.before.before.before.before.before.before.before.before.before.before.before.before.before.before.before.before.before.before.run-frame.auto.1.0; records = c.before.before.before.before.before.before.before.before.before.before.before.before.before.before.before.before.before.before.before.before.run-frame.auto.1.1.0; labels = c.before.before.before.before.before.before.before.before.before.before.before.before.before.before.before.before.before.before.before.before.run-frame.auto.1.1.1.0; gaps = c.before.before.before.before.before.before.before.before.before.before.before.before.before.before.before.before.before.before.before.before.run-frame.auto.1.1.1.1.0 }) _ _ c.before.before.before.before.before.before.before.before.before.before.before.before.before.before.before.before.before.before.before.before.run-frame.ensures _ c.before.before.before.before.before.n.given.1 _ c.before.go-back.ensures _ c.refused-at2.ensures;
+      answer = λ g s l fs st R. frame_back R _ (no_fault R _ _ c.before.before.before.before.before.before.before.before.before.before.before.before.before.before.before.before.before.before.before.before.before.before.before.before.before.before.before.before.before.before.before.check-frame.ensures c.before.before.before.before.before.before.before.before.before.before.before.before.before.before.before.before.before.before.before.before.before.before.before.before.before.before.before.before.before.before.if1.false) _ refl _ c.before.before.before.before.before.before.before.before.before.before.before.before.before.before.before.before.before.before.before.before.before.setting-of.ensures _ refl _ (record { tokens = c.before.before.before.before.before.before.before.before.before.before.before.before.before.before.before.before.before.before.before.before.run-frame.auto.0; sums = c.before.before.before.before.before.before.before.before.before.before.before.before.before.before.before.before.before.before.before.before.run-frame.auto.1.0; records = c.before.before.before.before.before.before.before.before.before.before.before.before.before.before.before.before.before.before.before.before.run-frame.auto.1.1.0; labels = c.before.before.before.before.before.before.before.before.before.before.before.before.before.before.before.before.before.before.before.before.run-frame.auto.1.1.1.0; gaps = c.before.before.before.before.before.before.before.before.before.before.before.before.before.before.before.before.before.before.before.before.run-frame.auto.1.1.1.1.0 }) _ _ c.before.before.before.before.before.before.before.before.before.before.before.before.before.before.before.before.before.before.before.before.run-frame.ensures _ c.before.before.before.before.before.n.given.1 _ c.before.go-back.ensures _ c.refused-at2.ensures;
       untouched = λ z. absurd (z (sym c.before.before.before.before.before.before.before.before.before.before.before.before.before.before.before.before.before.before.before.before.before.before.before.before.before.before.before.before.before.before.before.check-frame.ensures ∙ c.before.before.before.before.before.before.before.before.before.before.before.before.before.before.before.before.before.before.before.before.before.before.before.before.before.before.before.before.before.before.if1.false));
     }
 
@@ -101,7 +101,7 @@ same-length-14 c = c.before.before.before.before.before.before.before.before.bef
 returns-3 : tie.Need-returns-3
 returns-3 c =
     record {
-      answer = λ g s l fs st R. frame_on R _ (no-fault R _ _ c.before.before.before.before.before.before.before.before.before.before.before.before.before.before.before.before.before.before.before.before.before.before.before.before.before.before.before.before.before.check-frame.ensures c.before.before.before.before.before.before.before.before.before.before.before.before.before.before.before.before.before.before.before.before.before.before.before.before.before.before.before.before.if1.false) _ refl _ c.before.before.before.before.before.before.before.before.before.before.before.before.before.before.before.before.before.before.before.setting-of.ensures _ refl _ (record { tokens = c.before.before.before.before.before.before.before.before.before.before.before.before.before.before.before.before.before.before.run-frame.auto.0; sums = c.before.before.before.before.before.before.before.before.before.before.before.before.before.before.before.before.before.before.run-frame.auto.1.0; records = c.before.before.before.before.before.before.before.before.before.before.before.before.before.before.before.before.before.before.run-frame.auto.1.1.0; labels = c.before.before.before.before.before.before.before.before.before.before.before.before.before.before.before.before.before.before.run-frame.auto.1.1.1.0; gaps = c.before.before.before.before.before.before.before.before.before.before.before.before.before.before.before.before.before.before.run-frame.auto.1.1.1.1.0 }) _ _ c.before.before.before.before.before.before.before.before.before.before.before.before.before.before.before.before.before.before.run-frame.ensures _ c.before.before.before.w.given.1 _ c.turned.ensures;
+      answer = λ g s l fs st R. frame_on R _ (no_fault R _ _ c.before.before.before.before.before.before.before.before.before.before.before.before.before.before.before.before.before.before.before.before.before.before.before.before.before.before.before.before.before.check-frame.ensures c.before.before.before.before.before.before.before.before.before.before.before.before.before.before.before.before.before.before.before.before.before.before.before.before.before.before.before.before.if1.false) _ refl _ c.before.before.before.before.before.before.before.before.before.before.before.before.before.before.before.before.before.before.before.setting-of.ensures _ refl _ (record { tokens = c.before.before.before.before.before.before.before.before.before.before.before.before.before.before.before.before.before.before.run-frame.auto.0; sums = c.before.before.before.before.before.before.before.before.before.before.before.before.before.before.before.before.before.before.run-frame.auto.1.0; records = c.before.before.before.before.before.before.before.before.before.before.before.before.before.before.before.before.before.before.run-frame.auto.1.1.0; labels = c.before.before.before.before.before.before.before.before.before.before.before.before.before.before.before.before.before.before.run-frame.auto.1.1.1.0; gaps = c.before.before.before.before.before.before.before.before.before.before.before.before.before.before.before.before.before.before.run-frame.auto.1.1.1.1.0 }) _ _ c.before.before.before.before.before.before.before.before.before.before.before.before.before.before.before.before.before.before.run-frame.ensures _ c.before.before.before.w.given.1 _ c.turned.ensures;
       untouched = λ z. absurd (z (sym c.before.before.before.before.before.before.before.before.before.before.before.before.before.before.before.before.before.before.before.before.before.before.before.before.before.before.before.before.before.check-frame.ensures ∙ c.before.before.before.before.before.before.before.before.before.before.before.before.before.before.before.before.before.before.before.before.before.before.before.before.before.before.before.before.if1.false));
     }
 

@@ -2,7 +2,7 @@
 use mathlib.Core.Path.{refl, ◌∙◌}
 use native.Mathlib.Omega.{arith}
 use lib.Ieee.{of_bits}
-use Rattle.decoder.specs.Begin.{put-asks, pass-given, begins-nowhere, begins-on, begins-refused}
+use Rattle.decoder.specs.Begin.{put_asks, pass_given, begins_nowhere, begins_on, begins_refused}
 use borrow.Author.Rules.{rules}
 use Rattle.decoder.proofs.begin.Statement.{statement}
 use Rattle.decoder.proofs.begin.Tie as tie
@@ -17,14 +17,14 @@ same_length : tie.Need-same-length
 same_length c = c.before.before.before.before.Clear-both.auto.0
 
 returns : tie.Need-returns
-returns c = λ g s l st G. begins-nowhere G _ (record { tokens = c.before.before.before.before.Clear-both.auto.0; sums = refl; records = refl; labels = refl; gaps = refl }) c.before.before.before.before.Clear-both.ensures c.before.if1.true _ c.emptied.ensures
+returns c = λ g s l st G. begins_nowhere G _ (record { tokens = c.before.before.before.before.Clear-both.auto.0; sums = refl; records = refl; labels = refl; gaps = refl }) c.before.before.before.before.Clear-both.ensures c.before.if1.true _ c.emptied.ensures
 
 put-token-requires : tie.Need-put-token-requires
-put-token-requires c κs = put-asks c.before.before.before.before.before.before.before.before.before.before.before.before.before.before.before.before.requires.is c.before.before.if1.false c.before.before.before.before.before.Clear-both.new.0 c.before.before.before.before.before.Clear-both.auto.0
+put-token-requires c κs = put_asks c.before.before.before.before.before.before.before.before.before.before.before.before.before.before.before.before.requires.is c.before.before.if1.false c.before.before.before.before.before.Clear-both.new.0 c.before.before.before.before.before.Clear-both.auto.0
 
 nonemitting-requires : tie.Need-nonemitting-requires
 unfolding of_bits
-nonemitting-requires c κs = pass-given c.before.before.before.before.before.before.before.before.before.before.before.before.before.before.before.before.before.before.before.before.before.before.before.before.before.before.before.requires.is c.before.before.before.before.before.before.before.before.before.before.before.before.before.if1.false _ _ _ c.before.before.before.before.before.before.before.before.before.before.before.before.before.before.before.before.Clear-both.ensures (c.before.before.before.before.before.before.before.before.before.before.put-token.auto.0 ∙ c.before.before.before.before.before.before.before.before.before.before.before.before.before.before.before.before.Clear-both.auto.0) c.before.before.before.before.before.before.before.before.before.before.put-token.auto.1.0 c.before.before.before.before.before.before.before.before.before.before.put-token.ensures _ refl
+nonemitting-requires c κs = pass_given c.before.before.before.before.before.before.before.before.before.before.before.before.before.before.before.before.before.before.before.before.before.before.before.before.before.before.before.requires.is c.before.before.before.before.before.before.before.before.before.before.before.before.before.if1.false _ _ _ c.before.before.before.before.before.before.before.before.before.before.before.before.before.before.before.before.Clear-both.ensures (c.before.before.before.before.before.before.before.before.before.before.put-token.auto.0 ∙ c.before.before.before.before.before.before.before.before.before.before.before.before.before.before.before.before.Clear-both.auto.0) c.before.before.before.before.before.before.before.before.before.before.put-token.auto.1.0 c.before.before.before.before.before.before.before.before.before.before.put-token.ensures _ refl
 
 enum-known-n : tie.Need-enum-known-n
 enum-known-n c = search rules
@@ -65,7 +65,7 @@ same-length-7 c = c.before.before.before.before.before.before.before.before.befo
 
 returns-2 : tie.Need-returns-2
 unfolding of_bits
-returns-2 c = λ g s l st G. begins-refused G c.before.before.before.before.before.before.before.before.before.before.before.before.before.before.before.before.before.before.before.before.before.before.before.before.before.before.before.before.before.before.before.before.before.if1.false _ _ _ c.before.before.before.before.before.before.before.before.before.before.before.before.before.before.before.before.before.before.before.before.before.before.before.before.before.before.before.before.before.before.before.before.before.before.before.before.Clear-both.ensures (c.before.before.before.before.before.before.before.before.before.before.before.before.before.before.before.before.before.before.before.before.before.before.before.before.before.before.before.before.before.before.put-token.auto.0 ∙ c.before.before.before.before.before.before.before.before.before.before.before.before.before.before.before.before.before.before.before.before.before.before.before.before.before.before.before.before.before.before.before.before.before.before.before.before.Clear-both.auto.0) c.before.before.before.before.before.before.before.before.before.before.before.before.before.before.before.before.before.before.before.before.before.before.before.before.before.before.before.before.before.before.put-token.auto.1.0 c.before.before.before.before.before.before.before.before.before.before.before.before.before.before.before.before.before.before.before.before.before.before.before.before.before.before.before.before.before.before.put-token.ensures _ refl _ (record { tokens = c.before.before.before.before.before.before.before.before.before.before.before.before.before.before.before.before.before.before.before.nonemitting.auto.0 ∙ c.before.before.before.before.before.before.before.before.before.before.before.before.before.before.before.before.before.before.before.before.before.before.before.before.before.before.before.before.before.before.put-token.auto.0 ∙ c.before.before.before.before.before.before.before.before.before.before.before.before.before.before.before.before.before.before.before.before.before.before.before.before.before.before.before.before.before.before.before.before.before.before.before.before.Clear-both.auto.0; sums = c.before.before.before.before.before.before.before.before.before.before.before.before.before.before.before.before.before.before.before.nonemitting.auto.1.0 ∙ c.before.before.before.before.before.before.before.before.before.before.before.before.before.before.before.before.before.before.before.before.before.before.before.before.before.before.before.before.before.before.put-token.auto.1.0; records = c.before.before.before.before.before.before.before.before.before.before.before.before.before.before.before.before.before.before.before.nonemitting.auto.1.1.0; labels = c.before.before.before.before.before.before.before.before.before.before.before.before.before.before.before.before.before.before.before.nonemitting.auto.1.1.1.0; gaps = c.before.before.before.before.before.before.before.before.before.before.before.before.before.before.before.before.before.before.before.nonemitting.auto.1.1.1.1.0 }) _ _ c.before.before.before.before.before.before.before.before.before.before.before.before.before.before.before.before.before.before.before.nonemitting.ensures _ c.before.before.before.before.before.before.n.given.1 _ c.before.before.before.clear-both2.auto.0 c.before.before.before.clear-both2.ensures _ c.emptied2.ensures
+returns-2 c = λ g s l st G. begins_refused G c.before.before.before.before.before.before.before.before.before.before.before.before.before.before.before.before.before.before.before.before.before.before.before.before.before.before.before.before.before.before.before.before.before.if1.false _ _ _ c.before.before.before.before.before.before.before.before.before.before.before.before.before.before.before.before.before.before.before.before.before.before.before.before.before.before.before.before.before.before.before.before.before.before.before.before.Clear-both.ensures (c.before.before.before.before.before.before.before.before.before.before.before.before.before.before.before.before.before.before.before.before.before.before.before.before.before.before.before.before.before.before.put-token.auto.0 ∙ c.before.before.before.before.before.before.before.before.before.before.before.before.before.before.before.before.before.before.before.before.before.before.before.before.before.before.before.before.before.before.before.before.before.before.before.before.Clear-both.auto.0) c.before.before.before.before.before.before.before.before.before.before.before.before.before.before.before.before.before.before.before.before.before.before.before.before.before.before.before.before.before.before.put-token.auto.1.0 c.before.before.before.before.before.before.before.before.before.before.before.before.before.before.before.before.before.before.before.before.before.before.before.before.before.before.before.before.before.before.put-token.ensures _ refl _ (record { tokens = c.before.before.before.before.before.before.before.before.before.before.before.before.before.before.before.before.before.before.before.nonemitting.auto.0 ∙ c.before.before.before.before.before.before.before.before.before.before.before.before.before.before.before.before.before.before.before.before.before.before.before.before.before.before.before.before.before.before.put-token.auto.0 ∙ c.before.before.before.before.before.before.before.before.before.before.before.before.before.before.before.before.before.before.before.before.before.before.before.before.before.before.before.before.before.before.before.before.before.before.before.before.Clear-both.auto.0; sums = c.before.before.before.before.before.before.before.before.before.before.before.before.before.before.before.before.before.before.before.nonemitting.auto.1.0 ∙ c.before.before.before.before.before.before.before.before.before.before.before.before.before.before.before.before.before.before.before.before.before.before.before.before.before.before.before.before.before.before.put-token.auto.1.0; records = c.before.before.before.before.before.before.before.before.before.before.before.before.before.before.before.before.before.before.before.nonemitting.auto.1.1.0; labels = c.before.before.before.before.before.before.before.before.before.before.before.before.before.before.before.before.before.before.before.nonemitting.auto.1.1.1.0; gaps = c.before.before.before.before.before.before.before.before.before.before.before.before.before.before.before.before.before.before.before.nonemitting.auto.1.1.1.1.0 }) _ _ c.before.before.before.before.before.before.before.before.before.before.before.before.before.before.before.before.before.before.before.nonemitting.ensures _ c.before.before.before.before.before.before.n.given.1 _ c.before.before.before.clear-both2.auto.0 c.before.before.before.clear-both2.ensures _ c.emptied2.ensures
 
 same-length-8 : tie.Need-same-length-8
 same-length-8 c = c.before.before.before.before.before.before.before.before.before.before.before.before.before.before.before.nonemitting.auto.0 ∙ c.before.before.before.before.before.before.before.before.before.before.before.before.before.before.before.before.before.before.before.before.before.before.before.before.before.before.put-token.auto.0 ∙ c.before.before.before.before.before.before.before.before.before.before.before.before.before.before.before.before.before.before.before.before.before.before.before.before.before.before.before.before.before.before.before.before.Clear-both.auto.0
@@ -87,7 +87,7 @@ same-length-13 c = c.before.before.before.before.before.before.before.before.bef
 
 returns-3 : tie.Need-returns-3
 unfolding of_bits
-returns-3 c = λ g s l st G. begins-on G c.before.before.before.before.before.before.before.before.before.before.before.before.before.before.before.before.before.before.before.before.before.before.before.before.before.before.before.before.before.if1.false _ _ _ c.before.before.before.before.before.before.before.before.before.before.before.before.before.before.before.before.before.before.before.before.before.before.before.before.before.before.before.before.before.before.before.before.Clear-both.ensures (c.before.before.before.before.before.before.before.before.before.before.before.before.before.before.before.before.before.before.before.before.before.before.before.before.before.before.put-token.auto.0 ∙ c.before.before.before.before.before.before.before.before.before.before.before.before.before.before.before.before.before.before.before.before.before.before.before.before.before.before.before.before.before.before.before.before.Clear-both.auto.0) c.before.before.before.before.before.before.before.before.before.before.before.before.before.before.before.before.before.before.before.before.before.before.before.before.before.before.put-token.auto.1.0 c.before.before.before.before.before.before.before.before.before.before.before.before.before.before.before.before.before.before.before.before.before.before.before.before.before.before.put-token.ensures _ refl _ (record { tokens = c.before.before.before.before.before.before.before.before.before.before.before.before.before.before.before.nonemitting.auto.0 ∙ c.before.before.before.before.before.before.before.before.before.before.before.before.before.before.before.before.before.before.before.before.before.before.before.before.before.before.put-token.auto.0 ∙ c.before.before.before.before.before.before.before.before.before.before.before.before.before.before.before.before.before.before.before.before.before.before.before.before.before.before.before.before.before.before.before.before.Clear-both.auto.0; sums = c.before.before.before.before.before.before.before.before.before.before.before.before.before.before.before.nonemitting.auto.1.0 ∙ c.before.before.before.before.before.before.before.before.before.before.before.before.before.before.before.before.before.before.before.before.before.before.before.before.before.before.put-token.auto.1.0; records = c.before.before.before.before.before.before.before.before.before.before.before.before.before.before.before.nonemitting.auto.1.1.0; labels = c.before.before.before.before.before.before.before.before.before.before.before.before.before.before.before.nonemitting.auto.1.1.1.0; gaps = c.before.before.before.before.before.before.before.before.before.before.before.before.before.before.before.nonemitting.auto.1.1.1.1.0 }) _ _ c.before.before.before.before.before.before.before.before.before.before.before.before.before.before.before.nonemitting.ensures _ c.before.before.end.given.1 _ c.turned.ensures
+returns-3 c = λ g s l st G. begins_on G c.before.before.before.before.before.before.before.before.before.before.before.before.before.before.before.before.before.before.before.before.before.before.before.before.before.before.before.before.before.if1.false _ _ _ c.before.before.before.before.before.before.before.before.before.before.before.before.before.before.before.before.before.before.before.before.before.before.before.before.before.before.before.before.before.before.before.before.Clear-both.ensures (c.before.before.before.before.before.before.before.before.before.before.before.before.before.before.before.before.before.before.before.before.before.before.before.before.before.before.put-token.auto.0 ∙ c.before.before.before.before.before.before.before.before.before.before.before.before.before.before.before.before.before.before.before.before.before.before.before.before.before.before.before.before.before.before.before.before.Clear-both.auto.0) c.before.before.before.before.before.before.before.before.before.before.before.before.before.before.before.before.before.before.before.before.before.before.before.before.before.before.put-token.auto.1.0 c.before.before.before.before.before.before.before.before.before.before.before.before.before.before.before.before.before.before.before.before.before.before.before.before.before.before.put-token.ensures _ refl _ (record { tokens = c.before.before.before.before.before.before.before.before.before.before.before.before.before.before.before.nonemitting.auto.0 ∙ c.before.before.before.before.before.before.before.before.before.before.before.before.before.before.before.before.before.before.before.before.before.before.before.before.before.before.put-token.auto.0 ∙ c.before.before.before.before.before.before.before.before.before.before.before.before.before.before.before.before.before.before.before.before.before.before.before.before.before.before.before.before.before.before.before.before.Clear-both.auto.0; sums = c.before.before.before.before.before.before.before.before.before.before.before.before.before.before.before.nonemitting.auto.1.0 ∙ c.before.before.before.before.before.before.before.before.before.before.before.before.before.before.before.before.before.before.before.before.before.before.before.before.before.before.put-token.auto.1.0; records = c.before.before.before.before.before.before.before.before.before.before.before.before.before.before.before.nonemitting.auto.1.1.0; labels = c.before.before.before.before.before.before.before.before.before.before.before.before.before.before.before.nonemitting.auto.1.1.1.0; gaps = c.before.before.before.before.before.before.before.before.before.before.before.before.before.before.before.nonemitting.auto.1.1.1.1.0 }) _ _ c.before.before.before.before.before.before.before.before.before.before.before.before.before.before.before.nonemitting.ensures _ c.before.before.end.given.1 _ c.turned.ensures
 
 pub begin-spec : {M : Type 1} → statement M
 begin-spec =

@@ -1,6 +1,6 @@
 -- A frame in the first places of the stores, and the rest behind them.
 use mathlib.Core.Path.{sym}
-use Rattle.decoder.specs.Parts.{first-long, frame-cut-asks, frame-whole}
+use Rattle.decoder.specs.Parts.{first_long, frame_cut_asks, frame_whole}
 use borrow.Author.Rules.{rules}
 use Rattle.decoder.proofs.frame.Statement.{statement}
 use Rattle.decoder.proofs.frame.Tie as tie
@@ -33,34 +33,34 @@ slice-relend-prefix-advance : tie.Need-slice-relend-prefix-advance
 slice-relend-prefix-advance c = c.before.before.before.before.before.before.before.before.before.before.before.before.before.before.before.requires.left.is.fixed.stores.tokens
 
 slice-aggregate-advance : tie.Need-slice-aggregate-advance
-slice-aggregate-advance c = sym (first-long _ _ c.before.before.before.before.before.before.before.before.before.before.before.before.before.before.before.before.requires.left.is.fixed.stores.tokens)
+slice-aggregate-advance c = sym (first_long _ _ c.before.before.before.before.before.before.before.before.before.before.before.before.before.before.before.before.requires.left.is.fixed.stores.tokens)
 
 slice-relend-prefix-advance-2 : tie.Need-slice-relend-prefix-advance-2
 slice-relend-prefix-advance-2 c = c.before.before.before.before.before.before.before.before.before.before.before.before.before.before.before.before.requires.left.is.fixed.stores.sums
 
 slice-aggregate-advance-2 : tie.Need-slice-aggregate-advance-2
-slice-aggregate-advance-2 c = sym (first-long _ _ c.before.before.before.before.before.before.before.before.before.before.before.before.before.before.before.before.before.requires.left.is.fixed.stores.sums)
+slice-aggregate-advance-2 c = sym (first_long _ _ c.before.before.before.before.before.before.before.before.before.before.before.before.before.before.before.before.before.requires.left.is.fixed.stores.sums)
 
 slice-relend-prefix-advance-3 : tie.Need-slice-relend-prefix-advance-3
 slice-relend-prefix-advance-3 c = c.before.before.before.before.before.before.before.before.before.before.before.before.before.before.before.before.before.requires.left.is.fixed.stores.store.records
 
 slice-aggregate-advance-3 : tie.Need-slice-aggregate-advance-3
-slice-aggregate-advance-3 c = sym (first-long _ _ c.before.before.before.before.before.before.before.before.before.before.before.before.before.before.before.before.before.before.requires.left.is.fixed.stores.store.records)
+slice-aggregate-advance-3 c = sym (first_long _ _ c.before.before.before.before.before.before.before.before.before.before.before.before.before.before.before.before.before.before.requires.left.is.fixed.stores.store.records)
 
 slice-relend-prefix-advance-4 : tie.Need-slice-relend-prefix-advance-4
 slice-relend-prefix-advance-4 c = c.before.before.before.before.before.before.before.before.before.before.before.before.before.before.before.before.before.before.requires.left.is.fixed.stores.store.labels
 
 slice-aggregate-advance-4 : tie.Need-slice-aggregate-advance-4
-slice-aggregate-advance-4 c = sym (first-long _ _ c.before.before.before.before.before.before.before.before.before.before.before.before.before.before.before.before.before.before.before.requires.left.is.fixed.stores.store.labels)
+slice-aggregate-advance-4 c = sym (first_long _ _ c.before.before.before.before.before.before.before.before.before.before.before.before.before.before.before.before.before.before.before.requires.left.is.fixed.stores.store.labels)
 
 slice-relend-prefix-advance-5 : tie.Need-slice-relend-prefix-advance-5
 slice-relend-prefix-advance-5 c = c.before.before.before.before.before.before.before.before.before.before.before.before.before.before.before.before.before.before.before.requires.left.is.fixed.stores.store.gaps
 
 slice-aggregate-advance-5 : tie.Need-slice-aggregate-advance-5
-slice-aggregate-advance-5 c = sym (first-long _ _ c.before.before.before.before.before.before.before.before.before.before.before.before.before.before.before.before.before.before.before.before.requires.left.is.fixed.stores.store.gaps)
+slice-aggregate-advance-5 c = sym (first_long _ _ c.before.before.before.before.before.before.before.before.before.before.before.before.before.before.before.before.before.before.before.before.requires.left.is.fixed.stores.store.gaps)
 
 advance-requires : tie.Need-advance-requires
-advance-requires c κs = frame-cut-asks c.before.before.before.before.before.before.before.before.before.before.before.before.before.before.before.before.before.before.before.before.before.before.requires
+advance-requires c κs = frame_cut_asks c.before.before.before.before.before.before.before.before.before.before.before.before.before.before.before.before.before.before.before.before.before.before.requires
 
 same_length : tie.Need-same-length
 same_length c = search rules
@@ -84,7 +84,7 @@ same-length-7 : tie.Need-same-length-7
 same-length-7 c = search rules
 
 returns : tie.Need-returns
-returns c = frame-whole c.before.before.before.before.before.before.before.before.before.before.before.before.before.before.before.before.before.before.before.before.before.before.before.before.before.before.before.before.before.before.before.before.before.before.before.before.requires.left.is.fixed.stores _ (record { tokens = c.before.before.before.before.before.before.before.before.before.before.before.before.before.advance.auto.0; sums = c.before.before.before.before.before.before.before.before.before.before.before.before.before.advance.auto.1.0; records = c.before.before.before.before.before.before.before.before.before.before.before.before.before.advance.auto.1.1.0; labels = c.before.before.before.before.before.before.before.before.before.before.before.before.before.advance.auto.1.1.1.0; gaps = c.before.before.before.before.before.before.before.before.before.before.before.before.before.advance.auto.1.1.1.1.0 }) c.before.before.before.before.before.before.before.before.before.before.before.before.before.advance.auto.1.1.1.1.1.0 c.before.before.before.before.before.before.before.before.before.before.before.before.before.advance.auto.1.1.1.1.1.1.0 c.before.before.before.before.before.before.before.before.before.before.before.before.before.advance.ensures
+returns c = frame_whole c.before.before.before.before.before.before.before.before.before.before.before.before.before.before.before.before.before.before.before.before.before.before.before.before.before.before.before.before.before.before.before.before.before.before.before.before.requires.left.is.fixed.stores _ (record { tokens = c.before.before.before.before.before.before.before.before.before.before.before.before.before.advance.auto.0; sums = c.before.before.before.before.before.before.before.before.before.before.before.before.before.advance.auto.1.0; records = c.before.before.before.before.before.before.before.before.before.before.before.before.before.advance.auto.1.1.0; labels = c.before.before.before.before.before.before.before.before.before.before.before.before.before.advance.auto.1.1.1.0; gaps = c.before.before.before.before.before.before.before.before.before.before.before.before.before.advance.auto.1.1.1.1.0 }) c.before.before.before.before.before.before.before.before.before.before.before.before.before.advance.auto.1.1.1.1.1.0 c.before.before.before.before.before.before.before.before.before.before.before.before.before.advance.auto.1.1.1.1.1.1.0 c.before.before.before.before.before.before.before.before.before.before.before.before.before.advance.ensures
 
 pub frame-spec : {M : Type 1} → statement M
 frame-spec =

@@ -1,6 +1,6 @@
 -- The nonemitting pass goes on where the emitting one ends.
 use mathlib.Core.Path.{◌∙◌}
-use Rattle.decoder.specs.Frame.{run-stops, run-given, run_ends}
+use Rattle.decoder.specs.Frame.{run_stops, run_given, run_ends}
 use borrow.Author.Rules.{rules}
 use Rattle.decoder.proofs.run_frame.Statement.{statement}
 use Rattle.decoder.proofs.run_frame.Tie as tie
@@ -15,7 +15,7 @@ enum-known-w : tie.Need-enum-known-w
 enum-known-w c = search rules
 
 nonemitting-requires : tie.Need-nonemitting-requires
-nonemitting-requires c κs = run-given c.before.before.before.before.before.before.before.before.before.before.before.before.before.before.before.before.before.before.before.before.before.before.before.before.before.before.before.before.before.before.before.before.before.before.before.before.before.before.before.before.before.requires.0 _ _ _ c.before.before.before.before.before.before.before.before.before.before.before.before.before.before.before.before.before.before.before.before.before.before.emitting.ensures _ c.before.before.before.before.before.before.before.w.given.1 c.before.before.before.before.before.before.before.before.before.before.before.before.before.before.before.before.before.before.before.before.before.before.emitting.auto.1.1.1.1.1.0
+nonemitting-requires c κs = run_given c.before.before.before.before.before.before.before.before.before.before.before.before.before.before.before.before.before.before.before.before.before.before.before.before.before.before.before.before.before.before.before.before.before.before.before.before.before.before.before.before.before.requires.0 _ _ _ c.before.before.before.before.before.before.before.before.before.before.before.before.before.before.before.before.before.before.before.before.before.before.emitting.ensures _ c.before.before.before.before.before.before.before.w.given.1 c.before.before.before.before.before.before.before.before.before.before.before.before.before.before.before.before.before.before.before.before.before.before.emitting.auto.1.1.1.1.1.0
 
 same_length : tie.Need-same-length
 same_length c = c.before.before.before.before.before.before.before.before.before.before.before.before.before.before.before.before.emitting.auto.0
@@ -39,7 +39,7 @@ same-length-7 : tie.Need-same-length-7
 same-length-7 c = c.before.before.before.before.before.before.before.before.before.before.before.before.before.before.before.before.emitting.auto.1.1.1.1.1.1.0
 
 returns : tie.Need-returns
-returns c = λ G. run-stops G _ _ _ c.before.before.before.before.before.before.before.before.before.before.before.before.before.before.before.before.emitting.ensures _ c.before.n.given.1
+returns c = λ G. run_stops G _ _ _ c.before.before.before.before.before.before.before.before.before.before.before.before.before.before.before.before.emitting.ensures _ c.before.n.given.1
 
 same-length-8 : tie.Need-same-length-8
 same-length-8 c = c.before.before.before.before.before.before.before.before.before.before.before.nonemitting.auto.0 ∙ c.before.before.before.before.before.before.before.before.before.before.before.before.before.before.before.before.before.before.before.before.before.before.before.before.before.before.before.before.before.before.before.before.before.before.emitting.auto.0

@@ -1,6 +1,6 @@
 -- Of the finished table, its records and their gaps.
 use native.Mathlib.Omega.{arith}
-use Rattle.decoder_readings.specs.Listed.{readings-asks, readings-is}
+use Rattle.decoder_readings.specs.Listed.{readings_asks, readings_is}
 use Rattle.decoder_readings.proofs.reading_list.Statement.{statement}
 use Rattle.decoder_readings.proofs.reading_list.Tie as tie
 
@@ -8,7 +8,7 @@ sub-side : tie.Need-overflow-sub-side
 sub-side c = let z = c.before.before.before.before.before.before.before.before.before.before.before.before.before.before.before.before.before.before.before.before.before.before.before.before.before.before.requires.left.left.is.fixed.side in omega arith
 
 readings-requires : tie.Need-readings-requires
-readings-requires c κs = let p = c.before.before.before.before.before.before.before.before.before.before.before.before.before.before.before.before.before.before.before.before.before.before.before.before.before.before.before.before.before.before.before.before.before.before.before.before.before.before.before.before.before.before.before.before.before.before.before.requires in readings-asks p.left _ _ _ _ _ _ _ _ _ _ _ p.wide p.wide-records p.wide-kept
+readings-requires c κs = let p = c.before.before.before.before.before.before.before.before.before.before.before.before.before.before.before.before.before.before.before.before.before.before.before.before.before.before.before.before.before.before.before.before.before.before.before.before.before.before.before.before.before.before.before.before.before.before.before.requires in readings_asks p.left _ _ _ _ _ _ _ _ _ _ _ p.wide p.wide-records p.wide-kept
 
 same_length : tie.Need-same-length
 same_length c = c.before.before.before.before.before.before.before.before.before.before.before.before.before.before.before.before.before.before.before.before.before.before.before.before.before.before.before.before.before.before.before.before.before.before.before.before.before.before.before.before.before.readings.auto.1.1.1.1.1.1.1.1.1.1.1.1.1.1.1.0
@@ -74,7 +74,7 @@ same-length-21 : tie.Need-same-length-21
 same-length-21 c = c.before.before.before.before.before.before.before.before.before.before.before.before.before.before.before.before.before.before.before.before.before.before.before.before.before.before.before.before.before.before.before.before.before.before.before.before.before.before.before.before.before.readings.auto.1.1.1.1.1.1.1.1.1.1.1.1.1.1.1.1.1.1.1.1.1.1.1.1.1.1.1.1.1.1.1.1.1.1.1.0
 
 returns : tie.Need-returns
-returns c = record { answer = λ F. readings-is F _ _ _ _ _ _ _ _ c.before.before.before.before.before.before.before.before.before.before.before.before.before.before.before.before.before.before.before.before.before.before.before.before.before.before.before.before.before.before.before.before.before.before.before.before.before.before.before.before.before.readings.ensures.0; work = c.before.before.before.before.before.before.before.before.before.before.before.before.before.before.before.before.before.before.before.before.before.before.before.before.before.before.before.before.before.before.before.before.before.before.before.before.before.before.before.before.before.readings.ensures.1 }
+returns c = record { answer = λ F. readings_is F _ _ _ _ _ _ _ _ c.before.before.before.before.before.before.before.before.before.before.before.before.before.before.before.before.before.before.before.before.before.before.before.before.before.before.before.before.before.before.before.before.before.before.before.before.before.before.before.before.before.readings.ensures.0; work = c.before.before.before.before.before.before.before.before.before.before.before.before.before.before.before.before.before.before.before.before.before.before.before.before.before.before.before.before.before.before.before.before.before.before.before.before.before.before.before.before.before.readings.ensures.1 }
 
 pub reading-list-spec : {M : Type 1} → statement M
 reading-list-spec = tie.close (tie.spec sub-side readings-requires same_length same-length-2 same-length-3 same-length-4 same-length-5 same-length-6 same-length-7 same-length-8 same-length-9 same-length-10 same-length-11 same-length-12 same-length-13 same-length-14 same-length-15 same-length-16 same-length-17 same-length-18 same-length-19 same-length-20 same-length-21 returns)

@@ -1,6 +1,6 @@
 -- A token above the cutoff is passed over; the others' arcs arrive.
 use native.Mathlib.Omega.{arith}
-use Rattle.emitting.specs.Emit.{state-given, state-skips, state-emits}
+use Rattle.emitting.specs.Emit.{state_given, state_skips, state_emits}
 use borrow.Author.Rules.{rules}
 use Rattle.emitting.proofs.emit_state.Statement.{statement}
 use Rattle.emitting.proofs.emit_state.Tie as tie
@@ -20,10 +20,10 @@ same-length-2 : tie.Need-same-length-2
 same-length-2 c = search rules
 
 returns : tie.Need-returns
-returns c = λ G t e. state-skips G _ c.before.before.before.before.before.before.before.before.before.before.before.before.before.before.before.before.requires.1 _ c.before.before.token-at.ensures _ t e c.if1.true
+returns c = λ G t e. state_skips G _ c.before.before.before.before.before.before.before.before.before.before.before.before.before.before.before.before.requires.1 _ c.before.before.token-at.ensures _ t e c.if1.true
 
 arrive-state-requires : tie.Need-arrive-state-requires
-arrive-state-requires c κs = state-given c.before.before.before.before.before.before.before.before.before.before.before.before.before.before.before.before.before.before.before.before.before.before.requires.0 _ c.before.before.before.before.before.before.before.before.before.before.before.before.before.before.before.before.before.before.before.before.before.before.requires.1 _ c.before.before.before.before.before.before.before.before.token-at.ensures
+arrive-state-requires c κs = state_given c.before.before.before.before.before.before.before.before.before.before.before.before.before.before.before.before.before.before.before.before.before.before.requires.0 _ c.before.before.before.before.before.before.before.before.before.before.before.before.before.before.before.before.before.before.before.before.before.before.requires.1 _ c.before.before.before.before.before.before.before.before.token-at.ensures
 
 same-length-3 : tie.Need-same-length-3
 same-length-3 c = search rules
@@ -44,7 +44,7 @@ same-length-8 : tie.Need-same-length-8
 same-length-8 c = search rules
 
 returns-2 : tie.Need-returns-2
-returns-2 c = λ G t e. state-emits G _ c.before.before.before.before.before.before.before.before.before.before.before.before.before.before.before.before.before.before.before.before.before.before.before.before.before.before.before.before.before.before.before.before.before.before.requires.1 _ c.before.before.before.before.before.before.before.before.before.before.before.before.before.before.before.before.before.before.before.before.token-at.ensures _ t e _ _ _ c.before.before.before.before.before.before.before.before.before.before.before.before.before.before.before.before.before.before.if1.false c.before.before.before.before.before.before.before.before.before.before.before.arrive-state.ensures
+returns-2 c = λ G t e. state_emits G _ c.before.before.before.before.before.before.before.before.before.before.before.before.before.before.before.before.before.before.before.before.before.before.before.before.before.before.before.before.before.before.before.before.before.before.requires.1 _ c.before.before.before.before.before.before.before.before.before.before.before.before.before.before.before.before.before.before.before.before.token-at.ensures _ t e _ _ _ c.before.before.before.before.before.before.before.before.before.before.before.before.before.before.before.before.before.before.if1.false c.before.before.before.before.before.before.before.before.before.before.before.arrive-state.ensures
 
 pub emit-state-spec : {M : Type 1} → statement M
 emit-state-spec =

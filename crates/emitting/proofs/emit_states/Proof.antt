@@ -5,9 +5,9 @@ use native.Mathlib.Omega.{arith}
 use lib.ListN.{length}
 use borrow.Author.Rules.{rules}
 use Rattle.tokens.specs.Layout.{place_in, held_at}
-use Rattle.stores.specs.Rep.{lent, Lens, lens-self, lens-then}
+use Rattle.stores.specs.Rep.{lent, Lens, lens_self, lens_then}
 use Rattle.arcs.specs.State.{tables}
-use Rattle.emitting.specs.Emit.{EmitGiven, SoFar, far-start, emit-now, far-next, far-stop, far-end}
+use Rattle.emitting.specs.Emit.{EmitGiven, SoFar, far_start, emit_now, far_next, far_stop, far_end}
 use Rattle.emitting.proofs.emit_states.Statement.{statement}
 use Rattle.emitting.proofs.emit_states.Tie as tie
 
@@ -27,10 +27,10 @@ next-active-requires : tie.Need-next-active-requires invariant-loop decreases-lo
 next-active-requires c κs = let z = c.before.before.before.before.before.before.before.before.before.before.before.before.requires.at.stood.places.tokens in (omega arith, omega arith, omega arith)
 
 loop-holds : tie.Need-loop-init invariant-loop decreases-loop
-loop-holds c = let N = c.next-active.ensures in (N.upto, N.active, lens-self _, refl, λ G. far-start G _ _ N)
+loop-holds c = let N = c.next-active.ensures in (N.upto, N.active, lens_self _, refl, λ G. far_start G _ _ N)
 
 emit-state-requires : tie.Need-emit-state-requires invariant-loop decreases-loop
-emit-state-requires c κs = (emit-now c.before.before.before.before.before.before.before.before.before.before.before.before.before.before.before.before.before.before.before.before.before.requires _ (c.before.before.before.before.before.before.before.loop.invariant.4 c.before.before.before.before.before.before.before.before.before.before.before.before.before.before.before.before.before.before.before.before.before.requires) c.before.before.before.before.before.before.before.loop.invariant.3, (c.before.before.before.before.before.before.loop-test.true, c.before.before.before.before.before.before.before.loop.invariant.1 c.before.before.before.before.before.before.loop-test.true))
+emit-state-requires c κs = (emit_now c.before.before.before.before.before.before.before.before.before.before.before.before.before.before.before.before.before.before.before.before.before.requires _ (c.before.before.before.before.before.before.before.loop.invariant.4 c.before.before.before.before.before.before.before.before.before.before.before.before.before.before.before.before.before.before.before.before.before.requires) c.before.before.before.before.before.before.before.loop.invariant.3, (c.before.before.before.before.before.before.loop-test.true, c.before.before.before.before.before.before.before.loop.invariant.1 c.before.before.before.before.before.before.loop-test.true))
 
 enum-known-n : tie.Need-enum-known-n invariant-loop decreases-loop
 enum-known-n c = search rules
@@ -54,7 +54,7 @@ same-length-6 : tie.Need-same-length-6 invariant-loop decreases-loop
 same-length-6 c = c.before.before.before.before.before.before.before.before.before.before.before.before.before.before.emit-state.auto.1.1.1.1.1.0 ∙ c.before.before.before.before.before.before.before.before.before.before.before.before.before.before.before.before.before.before.before.before.before.before.loop.invariant.3
 
 returns : tie.Need-returns invariant-loop decreases-loop
-returns c = λ G. far-stop G _ (c.before.before.before.before.before.before.before.before.before.before.before.before.before.before.before.before.before.before.before.before.before.before.loop.invariant.4 G) (c.before.before.before.before.before.before.before.before.before.before.before.before.before.before.before.before.before.before.before.before.before.loop-test.true, c.before.before.before.before.before.before.before.before.before.before.before.before.before.before.before.before.before.before.before.before.before.before.loop.invariant.1 c.before.before.before.before.before.before.before.before.before.before.before.before.before.before.before.before.before.before.before.before.before.loop-test.true) c.before.before.before.before.before.before.before.before.before.before.before.before.before.before.before.before.before.before.before.before.before.before.loop.invariant.3 _ c.before.before.before.before.before.before.before.before.before.before.before.before.before.before.emit-state.ensures _ c.before.n.given.1
+returns c = λ G. far_stop G _ (c.before.before.before.before.before.before.before.before.before.before.before.before.before.before.before.before.before.before.before.before.before.before.loop.invariant.4 G) (c.before.before.before.before.before.before.before.before.before.before.before.before.before.before.before.before.before.before.before.before.before.loop-test.true, c.before.before.before.before.before.before.before.before.before.before.before.before.before.before.before.before.before.before.before.before.before.before.loop.invariant.1 c.before.before.before.before.before.before.before.before.before.before.before.before.before.before.before.before.before.before.before.before.before.loop-test.true) c.before.before.before.before.before.before.before.before.before.before.before.before.before.before.before.before.before.before.before.before.before.before.loop.invariant.3 _ c.before.before.before.before.before.before.before.before.before.before.before.before.before.before.emit-state.ensures _ c.before.n.given.1
 
 enum-known-next : tie.Need-enum-known-next invariant-loop decreases-loop
 enum-known-next c = search rules
@@ -76,9 +76,9 @@ loop-again : tie.Need-loop-preserved invariant-loop decreases-loop
 loop-again c = let N = c.next-active2.ensures in (
   N.upto,
   N.active,
-  lens-then c.before.before.before.before.before.before.before.before.before.before.before.before.before.before.before.before.before.before.before.before.before.before.before.before.loop.invariant.2 (record { tokens = c.before.before.before.before.before.before.before.before.before.before.before.before.before.before.before.before.emit-state.auto.0; sums = c.before.before.before.before.before.before.before.before.before.before.before.before.before.before.before.before.emit-state.auto.1.0; records = c.before.before.before.before.before.before.before.before.before.before.before.before.before.before.before.before.emit-state.auto.1.1.0; labels = c.before.before.before.before.before.before.before.before.before.before.before.before.before.before.before.before.emit-state.auto.1.1.1.0; gaps = c.before.before.before.before.before.before.before.before.before.before.before.before.before.before.before.before.emit-state.auto.1.1.1.1.0 }),
+  lens_then c.before.before.before.before.before.before.before.before.before.before.before.before.before.before.before.before.before.before.before.before.before.before.before.before.loop.invariant.2 (record { tokens = c.before.before.before.before.before.before.before.before.before.before.before.before.before.before.before.before.emit-state.auto.0; sums = c.before.before.before.before.before.before.before.before.before.before.before.before.before.before.before.before.emit-state.auto.1.0; records = c.before.before.before.before.before.before.before.before.before.before.before.before.before.before.before.before.emit-state.auto.1.1.0; labels = c.before.before.before.before.before.before.before.before.before.before.before.before.before.before.before.before.emit-state.auto.1.1.1.0; gaps = c.before.before.before.before.before.before.before.before.before.before.before.before.before.before.before.before.emit-state.auto.1.1.1.1.0 }),
   c.before.before.before.before.before.before.before.before.before.before.before.before.before.before.before.before.emit-state.auto.1.1.1.1.1.0 ∙ c.before.before.before.before.before.before.before.before.before.before.before.before.before.before.before.before.before.before.before.before.before.before.before.before.loop.invariant.3,
-  λ G. far-next G _ (c.before.before.before.before.before.before.before.before.before.before.before.before.before.before.before.before.before.before.before.before.before.before.before.before.loop.invariant.4 G) (c.before.before.before.before.before.before.before.before.before.before.before.before.before.before.before.before.before.before.before.before.before.before.before.loop-test.true, c.before.before.before.before.before.before.before.before.before.before.before.before.before.before.before.before.before.before.before.before.before.before.before.before.loop.invariant.1 c.before.before.before.before.before.before.before.before.before.before.before.before.before.before.before.before.before.before.before.before.before.before.before.loop-test.true) c.before.before.before.before.before.before.before.before.before.before.before.before.before.before.before.before.before.before.before.before.before.before.before.before.loop.invariant.3 _ c.before.before.before.before.before.before.before.before.before.before.before.before.before.before.before.before.emit-state.ensures _ c.before.before.before.next.given.1 _ N,
+  λ G. far_next G _ (c.before.before.before.before.before.before.before.before.before.before.before.before.before.before.before.before.before.before.before.before.before.before.before.before.loop.invariant.4 G) (c.before.before.before.before.before.before.before.before.before.before.before.before.before.before.before.before.before.before.before.before.before.before.before.loop-test.true, c.before.before.before.before.before.before.before.before.before.before.before.before.before.before.before.before.before.before.before.before.before.before.before.before.loop.invariant.1 c.before.before.before.before.before.before.before.before.before.before.before.before.before.before.before.before.before.before.before.before.before.before.before.loop-test.true) c.before.before.before.before.before.before.before.before.before.before.before.before.before.before.before.before.before.before.before.before.before.before.before.before.loop.invariant.3 _ c.before.before.before.before.before.before.before.before.before.before.before.before.before.before.before.before.emit-state.ensures _ c.before.before.before.next.given.1 _ N,
 )
 
 same-length-7 : tie.Need-same-length-7 invariant-loop decreases-loop
@@ -100,7 +100,7 @@ same-length-12 : tie.Need-same-length-12 invariant-loop decreases-loop
 same-length-12 c = c.before.loop.invariant.3
 
 returns-2 : tie.Need-returns-2 invariant-loop decreases-loop
-returns-2 c = λ G. far-end G _ (c.before.loop.invariant.4 G) c.loop-test.false
+returns-2 c = λ G. far_end G _ (c.before.loop.invariant.4 G) c.loop-test.false
 
 pub emit-states-spec : {M : Type 1} → statement M
 emit-states-spec =

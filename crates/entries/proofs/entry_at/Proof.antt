@@ -1,13 +1,13 @@
 -- Entry 0 is the start; any other is read from its place.
 use lib.Ieee.{of_bits}
 use Rattle.std.proofs.Common.{arith, rules}
-use Rattle.entries.specs.Laws.{entry-none, entry_in}
+use Rattle.entries.specs.Laws.{entry_none, entry_in_lem}
 use Rattle.entries.proofs.entry_at.Statement.{statement}
 use Rattle.entries.proofs.entry_at.Tie as tie
 
 returns : tie.Need-returns
 unfolding of_bits
-returns c = entry-none _ _ _ _ c.if1.true
+returns c = entry_none _ _ _ _ c.if1.true
 
 sub-i : tie.Need-overflow-sub-i
 sub-i c = search rules
@@ -76,7 +76,7 @@ shared-slice-read-t32 : tie.Need-shared-slice-read-t32
 shared-slice-read-t32 c = search rules
 
 returns-2 : tie.Need-returns-2
-returns-2 c = entry_in _ _ _ _ (let z = c.before.before.before.before.before.before.if1.false in omega arith)
+returns-2 c = entry_in_lem _ _ _ _ (let z = c.before.before.before.before.before.before.if1.false in omega arith)
 
 pub entry-at-spec : {M : Type 1} → statement M
 entry-at-spec =

@@ -1,6 +1,6 @@
 -- What stands, and of what is to come the new ones, make the list.
 use Rattle.std.proofs.Common.{◌+◌, ◌-◌, ◌∙◌, arith}
-use Rattle.entries.specs.Filling.{FillTo, few-paths, fill_none, room-left, next-asks, pick-asks, fill-moved, fill-full, fill-cap, fill_end, moves-one}
+use Rattle.entries.specs.Filling.{FillTo, few_paths, fill_none, room_left, next_asks, pick_asks, fill_moved, fill_full, fill_cap, fill_end, moves_one}
 use Rattle.entries.proofs.fill_list.Statement.{statement}
 use Rattle.entries.proofs.fill_list.Tie as tie
 
@@ -22,10 +22,10 @@ loop-holds : tie.Need-loop-init invariant-loop decreases-loop
 loop-holds c = fill_none _ _ _ c.before.before.before.before.before.before.before.before.before.before.before.args.own c.before.before.before.before.before.before.before.before.before.before.before.args.kept c.before.before.before.before.before.before.before.before.before.before.before.args.margin c.before.before.before.before.before.before.before.before.before.before.before.args.cap c.before.before.before.before.before.before.before.before.before.before.before.args.from c.before.before.before.before.before.before.before.before.before.before.before.args.places c.before.before.before.before.within.result c.within2.result c.before.before.before.before.before.before.before.before.before.before.before.requires c.before.before.before.before.within.ensures c.within2.ensures
 
 add-loop : tie.Need-overflow-add-loop invariant-loop decreases-loop
-add-loop c = record { fits = let u = few-paths _ _ _ c.before.before.before.before.before.before.before.before.before.before.before.before.args.own c.before.before.before.before.before.before.before.before.before.before.before.before.args.kept c.before.before.before.before.before.before.before.before.before.before.before.before.args.margin c.before.before.before.before.before.before.before.before.before.before.before.before.args.cap c.before.before.before.before.before.before.before.before.before.before.before.before.args.from c.before.before.before.before.before.before.before.before.before.before.before.before.args.places c.before.before.before.before.before.within.result c.before.within2.result c.before.before.before.before.before.before.before.before.before.before.before.before.requires c.before.before.before.before.before.within.ensures c.before.within2.ensures in let y = c.loop.invariant.own-done in let z = c.loop.invariant.kept-done in omega arith }
+add-loop c = record { fits = let u = few_paths _ _ _ c.before.before.before.before.before.before.before.before.before.before.before.before.args.own c.before.before.before.before.before.before.before.before.before.before.before.before.args.kept c.before.before.before.before.before.before.before.before.before.before.before.before.args.margin c.before.before.before.before.before.before.before.before.before.before.before.before.args.cap c.before.before.before.before.before.before.before.before.before.before.before.before.args.from c.before.before.before.before.before.before.before.before.before.before.before.before.args.places c.before.before.before.before.before.within.result c.before.within2.result c.before.before.before.before.before.before.before.before.before.before.before.before.requires c.before.before.before.before.before.within.ensures c.before.within2.ensures in let y = c.loop.invariant.own-done in let z = c.loop.invariant.kept-done in omega arith }
 
 add-loop-2 : tie.Need-overflow-add-loop-2 invariant-loop decreases-loop
-add-loop-2 c = record { fits = let u = few-paths _ _ _ c.before.before.before.before.before.before.before.before.before.before.before.before.args.own c.before.before.before.before.before.before.before.before.before.before.before.before.args.kept c.before.before.before.before.before.before.before.before.before.before.before.before.args.margin c.before.before.before.before.before.before.before.before.before.before.before.before.args.cap c.before.before.before.before.before.before.before.before.before.before.before.before.args.from c.before.before.before.before.before.before.before.before.before.before.before.before.args.places c.before.before.before.before.before.within.result c.before.within2.result c.before.before.before.before.before.before.before.before.before.before.before.before.requires c.before.before.before.before.before.within.ensures c.before.within2.ensures in omega arith }
+add-loop-2 c = record { fits = let u = few_paths _ _ _ c.before.before.before.before.before.before.before.before.before.before.before.before.args.own c.before.before.before.before.before.before.before.before.before.before.before.before.args.kept c.before.before.before.before.before.before.before.before.before.before.before.before.args.margin c.before.before.before.before.before.before.before.before.before.before.before.before.args.cap c.before.before.before.before.before.before.before.before.before.before.before.before.args.from c.before.before.before.before.before.before.before.before.before.before.before.before.args.places c.before.before.before.before.before.within.result c.before.within2.result c.before.before.before.before.before.before.before.before.before.before.before.before.requires c.before.before.before.before.before.within.ensures c.before.within2.ensures in omega arith }
 
 sub-if1 : tie.Need-overflow-sub-if1 invariant-loop decreases-loop
 sub-if1 c = c.before.loop.invariant.low
@@ -40,16 +40,16 @@ same-length-3 : tie.Need-same-length-3 invariant-loop decreases-loop
 same-length-3 c = c.before.before.loop.invariant.sums-length
 
 returns : tie.Need-returns invariant-loop decreases-loop
-returns c = fill-cap _ _ _ c.before.before.before.before.before.before.before.before.before.before.before.before.before.before.args.own c.before.before.before.before.before.before.before.before.before.before.before.before.before.before.args.kept c.before.before.before.before.before.before.before.before.before.before.before.before.before.before.args.margin c.before.before.before.before.before.before.before.before.before.before.before.before.before.before.args.cap c.before.before.before.before.before.before.before.before.before.before.before.before.before.before.args.from c.before.before.before.before.before.before.before.before.before.before.before.before.before.before.args.places c.before.before.before.before.before.before.before.within.result c.before.before.before.within2.result c.before.before.before.before.before.before.before.before.before.before.before.before.before.before.requires c.before.before.before.before.before.before.before.within.ensures c.before.before.before.within2.ensures _ _ _ _ _ _ c.before.before.loop.invariant c.if1.true
+returns c = fill_cap _ _ _ c.before.before.before.before.before.before.before.before.before.before.before.before.before.before.args.own c.before.before.before.before.before.before.before.before.before.before.before.before.before.before.args.kept c.before.before.before.before.before.before.before.before.before.before.before.before.before.before.args.margin c.before.before.before.before.before.before.before.before.before.before.before.before.before.before.args.cap c.before.before.before.before.before.before.before.before.before.before.before.before.before.before.args.from c.before.before.before.before.before.before.before.before.before.before.before.before.before.before.args.places c.before.before.before.before.before.before.before.within.result c.before.before.before.within2.result c.before.before.before.before.before.before.before.before.before.before.before.before.before.before.requires c.before.before.before.before.before.before.before.within.ensures c.before.before.before.within2.ensures _ _ _ _ _ _ c.before.before.loop.invariant c.if1.true
 
 own-next-requires : tie.Need-own-next-requires invariant-loop decreases-loop
-own-next-requires c κs = next-asks _ _ _ c.before.before.before.before.before.before.before.before.before.before.before.before.before.before.before.before.before.args.own c.before.before.before.before.before.before.before.before.before.before.before.before.before.before.before.before.before.args.kept c.before.before.before.before.before.before.before.before.before.before.before.before.before.before.before.before.before.args.margin c.before.before.before.before.before.before.before.before.before.before.before.before.before.before.before.before.before.args.cap c.before.before.before.before.before.before.before.before.before.before.before.before.before.before.before.before.before.args.from c.before.before.before.before.before.before.before.before.before.before.before.before.before.before.before.before.before.args.places c.before.before.before.before.before.before.before.before.before.before.within.result c.before.before.before.before.before.before.within2.result c.before.before.before.before.before.before.before.before.before.before.before.before.before.before.before.before.before.requires c.before.before.before.before.before.before.before.before.before.before.within.ensures c.before.before.before.before.before.before.within2.ensures _ _ _ _ _ _ c.before.before.before.before.before.loop.invariant
+own-next-requires c κs = next_asks _ _ _ c.before.before.before.before.before.before.before.before.before.before.before.before.before.before.before.before.before.args.own c.before.before.before.before.before.before.before.before.before.before.before.before.before.before.before.before.before.args.kept c.before.before.before.before.before.before.before.before.before.before.before.before.before.before.before.before.before.args.margin c.before.before.before.before.before.before.before.before.before.before.before.before.before.before.before.before.before.args.cap c.before.before.before.before.before.before.before.before.before.before.before.before.before.before.before.before.before.args.from c.before.before.before.before.before.before.before.before.before.before.before.before.before.before.before.before.before.args.places c.before.before.before.before.before.before.before.before.before.before.within.result c.before.before.before.before.before.before.within2.result c.before.before.before.before.before.before.before.before.before.before.before.before.before.before.before.before.before.requires c.before.before.before.before.before.before.before.before.before.before.within.ensures c.before.before.before.before.before.before.within2.ensures _ _ _ _ _ _ c.before.before.before.before.before.loop.invariant
 
 pick-requires : tie.Need-pick-requires invariant-loop decreases-loop
-pick-requires c κs = pick-asks _ _ _ c.before.before.before.before.before.before.before.before.before.before.before.before.before.before.before.before.before.before.before.before.before.args.own c.before.before.before.before.before.before.before.before.before.before.before.before.before.before.before.before.before.before.before.before.before.args.kept c.before.before.before.before.before.before.before.before.before.before.before.before.before.before.before.before.before.before.before.before.before.args.margin c.before.before.before.before.before.before.before.before.before.before.before.before.before.before.before.before.before.before.before.before.before.args.cap c.before.before.before.before.before.before.before.before.before.before.before.before.before.before.before.before.before.before.before.before.before.args.from c.before.before.before.before.before.before.before.before.before.before.before.before.before.before.before.before.before.before.before.before.before.args.places c.before.before.before.before.before.before.before.before.before.before.before.before.before.before.within.result c.before.before.before.before.before.before.before.before.before.before.within2.result c.before.before.before.before.before.before.before.before.before.before.before.before.before.before.before.before.before.before.before.before.before.requires c.before.before.before.before.before.before.before.before.before.before.before.before.before.before.within.ensures c.before.before.before.before.before.before.before.before.before.before.within2.ensures _ _ _ _ _ _ c.before.before.before.before.before.before.before.before.before.loop.invariant c.before.before.before.before.before.before.before.before.loop-test.true c.before.before.before.own-next.result c.before.before.before.own-next.ensures
+pick-requires c κs = pick_asks _ _ _ c.before.before.before.before.before.before.before.before.before.before.before.before.before.before.before.before.before.before.before.before.before.args.own c.before.before.before.before.before.before.before.before.before.before.before.before.before.before.before.before.before.before.before.before.before.args.kept c.before.before.before.before.before.before.before.before.before.before.before.before.before.before.before.before.before.before.before.before.before.args.margin c.before.before.before.before.before.before.before.before.before.before.before.before.before.before.before.before.before.before.before.before.before.args.cap c.before.before.before.before.before.before.before.before.before.before.before.before.before.before.before.before.before.before.before.before.before.args.from c.before.before.before.before.before.before.before.before.before.before.before.before.before.before.before.before.before.before.before.before.before.args.places c.before.before.before.before.before.before.before.before.before.before.before.before.before.before.within.result c.before.before.before.before.before.before.before.before.before.before.within2.result c.before.before.before.before.before.before.before.before.before.before.before.before.before.before.before.before.before.before.before.before.before.requires c.before.before.before.before.before.before.before.before.before.before.before.before.before.before.within.ensures c.before.before.before.before.before.before.before.before.before.before.within2.ensures _ _ _ _ _ _ c.before.before.before.before.before.before.before.before.before.loop.invariant c.before.before.before.before.before.before.before.before.loop-test.true c.before.before.before.own-next.result c.before.before.before.own-next.ensures
 
 put-new-requires : tie.Need-put-new-requires invariant-loop decreases-loop
-put-new-requires c κs = (c.before.before.before.before.before.before.before.before.before.before.before.before.before.before.before.before.before.before.before.before.before.before.before.before.before.requires.begins, c.before.before.before.before.before.before.before.before.before.before.before.before.before.loop.invariant.low, c.before.before.before.before.before.before.before.before.before.before.before.before.before.loop.invariant.high, let z = c.before.before.before.before.before.before.before.before.before.before.before.before.before.before.before.before.before.before.before.before.before.before.before.before.before.requires.few in omega arith, room-left _ _ _ c.before.before.before.before.before.before.before.before.before.before.before.before.before.before.before.before.before.before.before.before.before.before.before.before.before.args.own c.before.before.before.before.before.before.before.before.before.before.before.before.before.before.before.before.before.before.before.before.before.before.before.before.before.args.kept c.before.before.before.before.before.before.before.before.before.before.before.before.before.before.before.before.before.before.before.before.before.before.before.before.before.args.margin c.before.before.before.before.before.before.before.before.before.before.before.before.before.before.before.before.before.before.before.before.before.before.before.before.before.args.cap c.before.before.before.before.before.before.before.before.before.before.before.before.before.before.before.before.before.before.before.before.before.before.before.before.before.args.from c.before.before.before.before.before.before.before.before.before.before.before.before.before.before.before.before.before.before.before.before.before.before.before.before.before.args.places c.before.before.before.before.before.before.before.before.before.before.before.before.before.before.before.before.before.before.within.result c.before.before.before.before.before.before.before.before.before.before.before.before.before.before.within2.result c.before.before.before.before.before.before.before.before.before.before.before.before.before.before.before.before.before.before.before.before.before.before.before.before.before.requires c.before.before.before.before.before.before.before.before.before.before.before.before.before.before.before.before.before.before.within.ensures c.before.before.before.before.before.before.before.before.before.before.before.before.before.before.within2.ensures _ _ _ _ _ _ c.before.before.before.before.before.before.before.before.before.before.before.before.before.loop.invariant)
+put-new-requires c κs = (c.before.before.before.before.before.before.before.before.before.before.before.before.before.before.before.before.before.before.before.before.before.before.before.before.before.requires.begins, c.before.before.before.before.before.before.before.before.before.before.before.before.before.loop.invariant.low, c.before.before.before.before.before.before.before.before.before.before.before.before.before.loop.invariant.high, let z = c.before.before.before.before.before.before.before.before.before.before.before.before.before.before.before.before.before.before.before.before.before.before.before.before.before.requires.few in omega arith, room_left _ _ _ c.before.before.before.before.before.before.before.before.before.before.before.before.before.before.before.before.before.before.before.before.before.before.before.before.before.args.own c.before.before.before.before.before.before.before.before.before.before.before.before.before.before.before.before.before.before.before.before.before.before.before.before.before.args.kept c.before.before.before.before.before.before.before.before.before.before.before.before.before.before.before.before.before.before.before.before.before.before.before.before.before.args.margin c.before.before.before.before.before.before.before.before.before.before.before.before.before.before.before.before.before.before.before.before.before.before.before.before.before.args.cap c.before.before.before.before.before.before.before.before.before.before.before.before.before.before.before.before.before.before.before.before.before.before.before.before.before.args.from c.before.before.before.before.before.before.before.before.before.before.before.before.before.before.before.before.before.before.before.before.before.before.before.before.before.args.places c.before.before.before.before.before.before.before.before.before.before.before.before.before.before.before.before.before.before.within.result c.before.before.before.before.before.before.before.before.before.before.before.before.before.before.within2.result c.before.before.before.before.before.before.before.before.before.before.before.before.before.before.before.before.before.before.before.before.before.before.before.before.before.requires c.before.before.before.before.before.before.before.before.before.before.before.before.before.before.before.before.before.before.within.ensures c.before.before.before.before.before.before.before.before.before.before.before.before.before.before.within2.ensures _ _ _ _ _ _ c.before.before.before.before.before.before.before.before.before.before.before.before.before.loop.invariant)
 
 same-length-4 : tie.Need-same-length-4 invariant-loop decreases-loop
 same-length-4 c = c.before.before.before.before.before.before.before.put-new.auto.0 ∙ c.before.before.before.before.before.before.before.before.before.before.before.before.before.before.before.before.before.before.before.before.before.loop.invariant.hashes-length
@@ -61,19 +61,19 @@ same-length-6 : tie.Need-same-length-6 invariant-loop decreases-loop
 same-length-6 c = c.before.before.before.before.before.before.before.put-new.auto.1.1.0 ∙ c.before.before.before.before.before.before.before.before.before.before.before.before.before.before.before.before.before.before.before.before.before.loop.invariant.sums-length
 
 returns-2 : tie.Need-returns-2 invariant-loop decreases-loop
-returns-2 c = fill-full _ _ _ c.before.before.before.before.before.before.before.before.before.before.before.before.before.before.before.before.before.before.before.before.before.before.before.before.before.before.before.before.before.before.before.before.before.args.own c.before.before.before.before.before.before.before.before.before.before.before.before.before.before.before.before.before.before.before.before.before.before.before.before.before.before.before.before.before.before.before.before.before.args.kept c.before.before.before.before.before.before.before.before.before.before.before.before.before.before.before.before.before.before.before.before.before.before.before.before.before.before.before.before.before.before.before.before.before.args.margin c.before.before.before.before.before.before.before.before.before.before.before.before.before.before.before.before.before.before.before.before.before.before.before.before.before.before.before.before.before.before.before.before.before.args.cap c.before.before.before.before.before.before.before.before.before.before.before.before.before.before.before.before.before.before.before.before.before.before.before.before.before.before.before.before.before.before.before.before.before.args.from c.before.before.before.before.before.before.before.before.before.before.before.before.before.before.before.before.before.before.before.before.before.before.before.before.before.before.before.before.before.before.before.before.before.args.places c.before.before.before.before.before.before.before.before.before.before.before.before.before.before.before.before.before.before.before.before.before.before.before.before.before.before.within.result c.before.before.before.before.before.before.before.before.before.before.before.before.before.before.before.before.before.before.before.before.before.before.within2.result c.before.before.before.before.before.before.before.before.before.before.before.before.before.before.before.before.before.before.before.before.before.before.before.before.before.before.before.before.before.before.before.before.before.requires c.before.before.before.before.before.before.before.before.before.before.before.before.before.before.before.before.before.before.before.before.before.before.before.before.before.before.within.ensures c.before.before.before.before.before.before.before.before.before.before.before.before.before.before.before.before.before.before.before.before.before.before.within2.ensures _ _ _ _ _ _ c.before.before.before.before.before.before.before.before.before.before.before.before.before.before.before.before.before.before.before.before.before.loop.invariant c.before.before.before.before.before.before.before.before.before.before.before.before.before.before.before.before.before.before.before.before.loop-test.true c.before.before.before.before.before.before.before.before.before.before.before.before.before.before.before.own-next.result c.before.before.before.before.before.before.before.before.before.before.before.before.before.before.before.own-next.ensures c.before.before.before.before.before.before.before.before.before.before.before.pick.result c.before.before.before.before.before.before.before.before.before.before.before.pick.ensures _ _ _ c.before.before.before.before.before.before.before.before.before.before.before.before.before.before.before.before.before.before.before.if1.false _ c.if2.true c.before.before.before.before.before.before.before.put-new.ensures
+returns-2 c = fill_full _ _ _ c.before.before.before.before.before.before.before.before.before.before.before.before.before.before.before.before.before.before.before.before.before.before.before.before.before.before.before.before.before.before.before.before.before.args.own c.before.before.before.before.before.before.before.before.before.before.before.before.before.before.before.before.before.before.before.before.before.before.before.before.before.before.before.before.before.before.before.before.before.args.kept c.before.before.before.before.before.before.before.before.before.before.before.before.before.before.before.before.before.before.before.before.before.before.before.before.before.before.before.before.before.before.before.before.before.args.margin c.before.before.before.before.before.before.before.before.before.before.before.before.before.before.before.before.before.before.before.before.before.before.before.before.before.before.before.before.before.before.before.before.before.args.cap c.before.before.before.before.before.before.before.before.before.before.before.before.before.before.before.before.before.before.before.before.before.before.before.before.before.before.before.before.before.before.before.before.before.args.from c.before.before.before.before.before.before.before.before.before.before.before.before.before.before.before.before.before.before.before.before.before.before.before.before.before.before.before.before.before.before.before.before.before.args.places c.before.before.before.before.before.before.before.before.before.before.before.before.before.before.before.before.before.before.before.before.before.before.before.before.before.before.within.result c.before.before.before.before.before.before.before.before.before.before.before.before.before.before.before.before.before.before.before.before.before.before.within2.result c.before.before.before.before.before.before.before.before.before.before.before.before.before.before.before.before.before.before.before.before.before.before.before.before.before.before.before.before.before.before.before.before.before.requires c.before.before.before.before.before.before.before.before.before.before.before.before.before.before.before.before.before.before.before.before.before.before.before.before.before.before.within.ensures c.before.before.before.before.before.before.before.before.before.before.before.before.before.before.before.before.before.before.before.before.before.before.within2.ensures _ _ _ _ _ _ c.before.before.before.before.before.before.before.before.before.before.before.before.before.before.before.before.before.before.before.before.before.loop.invariant c.before.before.before.before.before.before.before.before.before.before.before.before.before.before.before.before.before.before.before.before.loop-test.true c.before.before.before.before.before.before.before.before.before.before.before.before.before.before.before.own-next.result c.before.before.before.before.before.before.before.before.before.before.before.before.before.before.before.own-next.ensures c.before.before.before.before.before.before.before.before.before.before.before.pick.result c.before.before.before.before.before.before.before.before.before.before.before.pick.ensures _ _ _ c.before.before.before.before.before.before.before.before.before.before.before.before.before.before.before.before.before.before.before.if1.false _ c.if2.true c.before.before.before.before.before.before.before.put-new.ensures
 
 moved-requires : tie.Need-moved-requires invariant-loop decreases-loop
-moved-requires c κs = let u = few-paths _ _ _ c.before.before.before.before.before.before.before.before.before.before.before.before.before.before.before.before.before.before.before.before.before.before.before.before.before.before.before.before.before.before.before.before.before.args.own c.before.before.before.before.before.before.before.before.before.before.before.before.before.before.before.before.before.before.before.before.before.before.before.before.before.before.before.before.before.before.before.before.before.args.kept c.before.before.before.before.before.before.before.before.before.before.before.before.before.before.before.before.before.before.before.before.before.before.before.before.before.before.before.before.before.before.before.before.before.args.margin c.before.before.before.before.before.before.before.before.before.before.before.before.before.before.before.before.before.before.before.before.before.before.before.before.before.before.before.before.before.before.before.before.before.args.cap c.before.before.before.before.before.before.before.before.before.before.before.before.before.before.before.before.before.before.before.before.before.before.before.before.before.before.before.before.before.before.before.before.before.args.from c.before.before.before.before.before.before.before.before.before.before.before.before.before.before.before.before.before.before.before.before.before.before.before.before.before.before.before.before.before.before.before.before.before.args.places c.before.before.before.before.before.before.before.before.before.before.before.before.before.before.before.before.before.before.before.before.before.before.before.before.before.before.within.result c.before.before.before.before.before.before.before.before.before.before.before.before.before.before.before.before.before.before.before.before.before.before.within2.result c.before.before.before.before.before.before.before.before.before.before.before.before.before.before.before.before.before.before.before.before.before.before.before.before.before.before.before.before.before.before.before.before.before.requires c.before.before.before.before.before.before.before.before.before.before.before.before.before.before.before.before.before.before.before.before.before.before.before.before.before.before.within.ensures c.before.before.before.before.before.before.before.before.before.before.before.before.before.before.before.before.before.before.before.before.before.before.within2.ensures in let y = c.before.before.before.before.before.before.before.before.before.before.before.before.before.before.before.before.before.before.before.before.before.loop.invariant.own-done in let z = c.before.before.before.before.before.before.before.before.before.before.before.before.before.before.before.before.before.before.before.before.before.loop.invariant.kept-done in omega arith
+moved-requires c κs = let u = few_paths _ _ _ c.before.before.before.before.before.before.before.before.before.before.before.before.before.before.before.before.before.before.before.before.before.before.before.before.before.before.before.before.before.before.before.before.before.args.own c.before.before.before.before.before.before.before.before.before.before.before.before.before.before.before.before.before.before.before.before.before.before.before.before.before.before.before.before.before.before.before.before.before.args.kept c.before.before.before.before.before.before.before.before.before.before.before.before.before.before.before.before.before.before.before.before.before.before.before.before.before.before.before.before.before.before.before.before.before.args.margin c.before.before.before.before.before.before.before.before.before.before.before.before.before.before.before.before.before.before.before.before.before.before.before.before.before.before.before.before.before.before.before.before.before.args.cap c.before.before.before.before.before.before.before.before.before.before.before.before.before.before.before.before.before.before.before.before.before.before.before.before.before.before.before.before.before.before.before.before.before.args.from c.before.before.before.before.before.before.before.before.before.before.before.before.before.before.before.before.before.before.before.before.before.before.before.before.before.before.before.before.before.before.before.before.before.args.places c.before.before.before.before.before.before.before.before.before.before.before.before.before.before.before.before.before.before.before.before.before.before.before.before.before.before.within.result c.before.before.before.before.before.before.before.before.before.before.before.before.before.before.before.before.before.before.before.before.before.before.within2.result c.before.before.before.before.before.before.before.before.before.before.before.before.before.before.before.before.before.before.before.before.before.before.before.before.before.before.before.before.before.before.before.before.before.requires c.before.before.before.before.before.before.before.before.before.before.before.before.before.before.before.before.before.before.before.before.before.before.before.before.before.before.within.ensures c.before.before.before.before.before.before.before.before.before.before.before.before.before.before.before.before.before.before.before.before.before.before.within2.ensures in let y = c.before.before.before.before.before.before.before.before.before.before.before.before.before.before.before.before.before.before.before.before.before.loop.invariant.own-done in let z = c.before.before.before.before.before.before.before.before.before.before.before.before.before.before.before.before.before.before.before.before.before.loop.invariant.kept-done in omega arith
 
 moved-requires-2 : tie.Need-moved-requires-2 invariant-loop decreases-loop
-moved-requires-2 c κs = let u = few-paths _ _ _ c.before.before.before.before.before.before.before.before.before.before.before.before.before.before.before.before.before.before.before.before.before.before.before.before.before.before.before.before.before.before.before.before.before.before.args.own c.before.before.before.before.before.before.before.before.before.before.before.before.before.before.before.before.before.before.before.before.before.before.before.before.before.before.before.before.before.before.before.before.before.before.args.kept c.before.before.before.before.before.before.before.before.before.before.before.before.before.before.before.before.before.before.before.before.before.before.before.before.before.before.before.before.before.before.before.before.before.before.args.margin c.before.before.before.before.before.before.before.before.before.before.before.before.before.before.before.before.before.before.before.before.before.before.before.before.before.before.before.before.before.before.before.before.before.before.args.cap c.before.before.before.before.before.before.before.before.before.before.before.before.before.before.before.before.before.before.before.before.before.before.before.before.before.before.before.before.before.before.before.before.before.before.args.from c.before.before.before.before.before.before.before.before.before.before.before.before.before.before.before.before.before.before.before.before.before.before.before.before.before.before.before.before.before.before.before.before.before.before.args.places c.before.before.before.before.before.before.before.before.before.before.before.before.before.before.before.before.before.before.before.before.before.before.before.before.before.before.before.within.result c.before.before.before.before.before.before.before.before.before.before.before.before.before.before.before.before.before.before.before.before.before.before.before.within2.result c.before.before.before.before.before.before.before.before.before.before.before.before.before.before.before.before.before.before.before.before.before.before.before.before.before.before.before.before.before.before.before.before.before.before.requires c.before.before.before.before.before.before.before.before.before.before.before.before.before.before.before.before.before.before.before.before.before.before.before.before.before.before.before.within.ensures c.before.before.before.before.before.before.before.before.before.before.before.before.before.before.before.before.before.before.before.before.before.before.before.within2.ensures in let y = c.before.before.before.before.before.before.before.before.before.before.before.before.before.before.before.before.before.before.before.before.before.before.loop.invariant.own-done in let z = c.before.before.before.before.before.before.before.before.before.before.before.before.before.before.before.before.before.before.before.before.before.before.loop.invariant.kept-done in omega arith
+moved-requires-2 c κs = let u = few_paths _ _ _ c.before.before.before.before.before.before.before.before.before.before.before.before.before.before.before.before.before.before.before.before.before.before.before.before.before.before.before.before.before.before.before.before.before.before.args.own c.before.before.before.before.before.before.before.before.before.before.before.before.before.before.before.before.before.before.before.before.before.before.before.before.before.before.before.before.before.before.before.before.before.before.args.kept c.before.before.before.before.before.before.before.before.before.before.before.before.before.before.before.before.before.before.before.before.before.before.before.before.before.before.before.before.before.before.before.before.before.before.args.margin c.before.before.before.before.before.before.before.before.before.before.before.before.before.before.before.before.before.before.before.before.before.before.before.before.before.before.before.before.before.before.before.before.before.before.args.cap c.before.before.before.before.before.before.before.before.before.before.before.before.before.before.before.before.before.before.before.before.before.before.before.before.before.before.before.before.before.before.before.before.before.before.args.from c.before.before.before.before.before.before.before.before.before.before.before.before.before.before.before.before.before.before.before.before.before.before.before.before.before.before.before.before.before.before.before.before.before.before.args.places c.before.before.before.before.before.before.before.before.before.before.before.before.before.before.before.before.before.before.before.before.before.before.before.before.before.before.before.within.result c.before.before.before.before.before.before.before.before.before.before.before.before.before.before.before.before.before.before.before.before.before.before.before.within2.result c.before.before.before.before.before.before.before.before.before.before.before.before.before.before.before.before.before.before.before.before.before.before.before.before.before.before.before.before.before.before.before.before.before.before.requires c.before.before.before.before.before.before.before.before.before.before.before.before.before.before.before.before.before.before.before.before.before.before.before.before.before.before.before.within.ensures c.before.before.before.before.before.before.before.before.before.before.before.before.before.before.before.before.before.before.before.before.before.before.before.within2.ensures in let y = c.before.before.before.before.before.before.before.before.before.before.before.before.before.before.before.before.before.before.before.before.before.before.loop.invariant.own-done in let z = c.before.before.before.before.before.before.before.before.before.before.before.before.before.before.before.before.before.before.before.before.before.before.loop.invariant.kept-done in omega arith
 
 loop-less : tie.Need-loop-smaller invariant-loop decreases-loop
-loop-less c = let z = moves-one c.before.before.before.before.before.before.before.before.before.before.before.before.before.before.before.before.before.own-next.result c.before.before.before.before.before.before.before.before.before.before.before.before.before.before.before.before.before.before.before.before.before.before.before.loop.i c.before.before.before.before.before.before.before.before.before.before.before.before.before.before.before.before.before.before.before.before.before.before.before.loop.j _ _ c.before.moved.ensures c.moved2.ensures in let y = c.before.before.before.before.before.before.before.before.before.before.before.before.before.before.before.before.before.before.before.before.before.before.loop-test.true in omega arith
+loop-less c = let z = moves_one c.before.before.before.before.before.before.before.before.before.before.before.before.before.before.before.before.before.own-next.result c.before.before.before.before.before.before.before.before.before.before.before.before.before.before.before.before.before.before.before.before.before.before.before.loop.i c.before.before.before.before.before.before.before.before.before.before.before.before.before.before.before.before.before.before.before.before.before.before.before.loop.j _ _ c.before.moved.ensures c.moved2.ensures in let y = c.before.before.before.before.before.before.before.before.before.before.before.before.before.before.before.before.before.before.before.before.before.before.loop-test.true in omega arith
 
 loop-again : tie.Need-loop-preserved invariant-loop decreases-loop
-loop-again c = fill-moved _ _ _ c.before.before.before.before.before.before.before.before.before.before.before.before.before.before.before.before.before.before.before.before.before.before.before.before.before.before.before.before.before.before.before.before.before.before.before.args.own c.before.before.before.before.before.before.before.before.before.before.before.before.before.before.before.before.before.before.before.before.before.before.before.before.before.before.before.before.before.before.before.before.before.before.before.args.kept c.before.before.before.before.before.before.before.before.before.before.before.before.before.before.before.before.before.before.before.before.before.before.before.before.before.before.before.before.before.before.before.before.before.before.before.args.margin c.before.before.before.before.before.before.before.before.before.before.before.before.before.before.before.before.before.before.before.before.before.before.before.before.before.before.before.before.before.before.before.before.before.before.before.args.cap c.before.before.before.before.before.before.before.before.before.before.before.before.before.before.before.before.before.before.before.before.before.before.before.before.before.before.before.before.before.before.before.before.before.before.before.args.from c.before.before.before.before.before.before.before.before.before.before.before.before.before.before.before.before.before.before.before.before.before.before.before.before.before.before.before.before.before.before.before.before.before.before.before.args.places c.before.before.before.before.before.before.before.before.before.before.before.before.before.before.before.before.before.before.before.before.before.before.before.before.before.before.before.before.within.result c.before.before.before.before.before.before.before.before.before.before.before.before.before.before.before.before.before.before.before.before.before.before.before.before.within2.result c.before.before.before.before.before.before.before.before.before.before.before.before.before.before.before.before.before.before.before.before.before.before.before.before.before.before.before.before.before.before.before.before.before.before.before.requires c.before.before.before.before.before.before.before.before.before.before.before.before.before.before.before.before.before.before.before.before.before.before.before.before.before.before.before.before.within.ensures c.before.before.before.before.before.before.before.before.before.before.before.before.before.before.before.before.before.before.before.before.before.before.before.before.within2.ensures _ _ _ _ _ _ c.before.before.before.before.before.before.before.before.before.before.before.before.before.before.before.before.before.before.before.before.before.before.before.loop.invariant c.before.before.before.before.before.before.before.before.before.before.before.before.before.before.before.before.before.before.before.before.before.before.loop-test.true c.before.before.before.before.before.before.before.before.before.before.before.before.before.before.before.before.before.own-next.result c.before.before.before.before.before.before.before.before.before.before.before.before.before.before.before.before.before.own-next.ensures c.before.before.before.before.before.before.before.before.before.before.before.before.before.pick.result c.before.before.before.before.before.before.before.before.before.before.before.before.before.pick.ensures _ _ _ c.before.before.before.before.before.before.before.before.before.before.before.before.before.before.before.before.before.before.before.before.before.if1.false _ c.before.before.if2.false c.before.before.before.before.before.before.before.before.before.put-new.auto.0 c.before.before.before.before.before.before.before.before.before.put-new.auto.1.0 c.before.before.before.before.before.before.before.before.before.put-new.auto.1.1.0 c.before.before.before.before.before.before.before.before.before.put-new.ensures _ _ c.before.moved.ensures c.moved2.ensures
+loop-again c = fill_moved _ _ _ c.before.before.before.before.before.before.before.before.before.before.before.before.before.before.before.before.before.before.before.before.before.before.before.before.before.before.before.before.before.before.before.before.before.before.before.args.own c.before.before.before.before.before.before.before.before.before.before.before.before.before.before.before.before.before.before.before.before.before.before.before.before.before.before.before.before.before.before.before.before.before.before.before.args.kept c.before.before.before.before.before.before.before.before.before.before.before.before.before.before.before.before.before.before.before.before.before.before.before.before.before.before.before.before.before.before.before.before.before.before.before.args.margin c.before.before.before.before.before.before.before.before.before.before.before.before.before.before.before.before.before.before.before.before.before.before.before.before.before.before.before.before.before.before.before.before.before.before.before.args.cap c.before.before.before.before.before.before.before.before.before.before.before.before.before.before.before.before.before.before.before.before.before.before.before.before.before.before.before.before.before.before.before.before.before.before.before.args.from c.before.before.before.before.before.before.before.before.before.before.before.before.before.before.before.before.before.before.before.before.before.before.before.before.before.before.before.before.before.before.before.before.before.before.before.args.places c.before.before.before.before.before.before.before.before.before.before.before.before.before.before.before.before.before.before.before.before.before.before.before.before.before.before.before.before.within.result c.before.before.before.before.before.before.before.before.before.before.before.before.before.before.before.before.before.before.before.before.before.before.before.before.within2.result c.before.before.before.before.before.before.before.before.before.before.before.before.before.before.before.before.before.before.before.before.before.before.before.before.before.before.before.before.before.before.before.before.before.before.before.requires c.before.before.before.before.before.before.before.before.before.before.before.before.before.before.before.before.before.before.before.before.before.before.before.before.before.before.before.before.within.ensures c.before.before.before.before.before.before.before.before.before.before.before.before.before.before.before.before.before.before.before.before.before.before.before.before.within2.ensures _ _ _ _ _ _ c.before.before.before.before.before.before.before.before.before.before.before.before.before.before.before.before.before.before.before.before.before.before.before.loop.invariant c.before.before.before.before.before.before.before.before.before.before.before.before.before.before.before.before.before.before.before.before.before.before.loop-test.true c.before.before.before.before.before.before.before.before.before.before.before.before.before.before.before.before.before.own-next.result c.before.before.before.before.before.before.before.before.before.before.before.before.before.before.before.before.before.own-next.ensures c.before.before.before.before.before.before.before.before.before.before.before.before.before.pick.result c.before.before.before.before.before.before.before.before.before.before.before.before.before.pick.ensures _ _ _ c.before.before.before.before.before.before.before.before.before.before.before.before.before.before.before.before.before.before.before.before.before.if1.false _ c.before.before.if2.false c.before.before.before.before.before.before.before.before.before.put-new.auto.0 c.before.before.before.before.before.before.before.before.before.put-new.auto.1.0 c.before.before.before.before.before.before.before.before.before.put-new.auto.1.1.0 c.before.before.before.before.before.before.before.before.before.put-new.ensures _ _ c.before.moved.ensures c.moved2.ensures
 
 same-length-7 : tie.Need-same-length-7 invariant-loop decreases-loop
 same-length-7 c = c.before.loop.invariant.hashes-length

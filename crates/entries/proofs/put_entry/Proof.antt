@@ -1,6 +1,6 @@
 -- Each number is written in its place.
 use Rattle.std.proofs.Common.{arith, length-set, rules}
-use Rattle.entries.specs.Laws.{entry-put}
+use Rattle.entries.specs.Laws.{entry_put}
 use Rattle.entries.proofs.put_entry.Statement.{statement}
 use Rattle.entries.proofs.put_entry.Tie as tie
 
@@ -80,7 +80,7 @@ same-length-3 : tie.Need-same-length-3
 same-length-3 c = search rules
 
 returns : tie.Need-returns
-returns c = let y = c.requires.0 in let h = c.requires.1.hashes in let n = c.requires.1.nexts in let s = c.requires.1.sums in entry-put _ _ _ _ _ (omega arith) (omega arith) (omega arith)
+returns c = let y = c.requires.0 in let h = c.requires.1.hashes in let n = c.requires.1.nexts in let s = c.requires.1.sums in entry_put _ _ _ _ _ (omega arith) (omega arith) (omega arith)
 
 pub put-entry-spec : {M : Type 1} → statement M
 put-entry-spec =

@@ -1,6 +1,6 @@
 -- It is there already, or has no place, or is put at the end.
 use Rattle.std.proofs.Common.{sym, refl, ◌∙◌, arith, rules}
-use Rattle.entries.specs.Entries.{wasThere, wasFull, wasPut}
+use Rattle.entries.specs.Entries.{was_there_lem, was_full, was_put}
 use Rattle.entries.proofs.put_new.Statement.{statement}
 use Rattle.entries.proofs.put_new.Tie as tie
 
@@ -14,7 +14,7 @@ same-length-2 : tie.Need-same-length-2
 same-length-2 c = search rules
 
 returns : tie.Need-returns
-returns c = wasThere (sym (c.before.has_key_lem.ensures c.before.before.before.before.before.before.before.args.sums.now) ∙ c.if1.true) refl refl refl
+returns c = was_there_lem (sym (c.before.has_key_lem.ensures c.before.before.before.before.before.before.before.args.sums.now) ∙ c.if1.true) refl refl refl
 
 same-length-3 : tie.Need-same-length-3
 same-length-3 c = search rules
@@ -23,7 +23,7 @@ same-length-4 : tie.Need-same-length-4
 same-length-4 c = search rules
 
 returns-2 : tie.Need-returns-2
-returns-2 c = wasFull (sym (c.before.before.has_key_lem.ensures c.before.before.before.before.before.before.before.before.args.sums.now) ∙ c.before.if1.false) c.if2.true refl refl refl
+returns-2 c = was_full (sym (c.before.before.has_key_lem.ensures c.before.before.before.before.before.before.before.before.args.sums.now) ∙ c.before.if1.false) c.if2.true refl refl refl
 
 put-entry-requires : tie.Need-put-entry-requires
 put-entry-requires c κs = search rules
@@ -41,7 +41,7 @@ same-length-7 : tie.Need-same-length-7
 same-length-7 c = search rules
 
 returns-3 : tie.Need-returns-3
-returns-3 c = wasPut (sym (c.before.before.before.before.before.before.before.before.before.before.before.before.has_key_lem.ensures c.before.before.before.before.before.before.before.before.before.before.before.before.before.before.before.before.before.before.args.sums.now) ∙ c.before.before.before.before.before.before.before.before.before.before.before.if1.false) (let z = c.before.before.before.before.before.before.before.before.before.before.if2.false in omega arith) c.before.before.before.before.before.before.put-entry.ensures
+returns-3 c = was_put (sym (c.before.before.before.before.before.before.before.before.before.before.before.before.has_key_lem.ensures c.before.before.before.before.before.before.before.before.before.before.before.before.before.before.before.before.before.before.args.sums.now) ∙ c.before.before.before.before.before.before.before.before.before.before.before.if1.false) (let z = c.before.before.before.before.before.before.before.before.before.before.if2.false in omega arith) c.before.before.before.before.before.before.put-entry.ensures
 
 pub put-new-spec : {M : Type 1} → statement M
 put-new-spec =

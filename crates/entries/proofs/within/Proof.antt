@@ -1,6 +1,6 @@
 -- The margin cuts none so far.
 use Rattle.std.proofs.Common.{◌-◌, arith}
-use Rattle.entries.specs.Laws.{UncutTo, uncut-none, uncut-next, cut_at, uncut-all}
+use Rattle.entries.specs.Laws.{UncutTo, uncut_none, uncut_next, cut_at, uncut_all}
 use Rattle.entries.proofs.within.Statement.{statement}
 use Rattle.entries.proofs.within.Tie as tie
 
@@ -13,7 +13,7 @@ decreases-loop hashes nexts sums w margin i₀ i-end i =
     w.count - i
 
 loop-holds : tie.Need-loop-init invariant-loop decreases-loop
-loop-holds c = uncut-none _ _ _ c.before.before.before.args.w _
+loop-holds c = uncut_none _ _ _ c.before.before.before.args.w _
 
 by-way-requires : tie.Need-by-way-requires invariant-loop decreases-loop
 by-way-requires c κs = (c.before.before.before.before.before.requires, c.loop-test.true)
@@ -28,10 +28,10 @@ loop-less : tie.Need-loop-smaller invariant-loop decreases-loop
 loop-less c = let z = c.before.before.before.loop-test.true in omega arith
 
 loop-again : tie.Need-loop-preserved invariant-loop decreases-loop
-loop-again c = uncut-next _ _ _ c.before.before.before.before.before.before.before.before.args.w c.before.before.before.before.loop.invariant c.before.before.by_way.result c.before.before.before.loop-test.true c.before.before.by_way.ensures c.if1.false
+loop-again c = uncut_next _ _ _ c.before.before.before.before.before.before.before.before.args.w c.before.before.before.before.loop.invariant c.before.before.by_way.result c.before.before.before.loop-test.true c.before.before.by_way.ensures c.if1.false
 
 returns-2 : tie.Need-returns-2 invariant-loop decreases-loop
-returns-2 c = uncut-all _ _ _ c.before.before.before.before.before.args.w c.before.loop.invariant (let z = c.before.loop.invariant.few in let y = c.loop-test.false in omega arith)
+returns-2 c = uncut_all _ _ _ c.before.before.before.before.before.args.w c.before.loop.invariant (let z = c.before.loop.invariant.few in let y = c.loop-test.false in omega arith)
 
 pub within-spec : {M : Type 1} → statement M
 within-spec =

@@ -3,11 +3,11 @@ use borrow.Author.Rules.{rules}
 use mathlib.Core.Path.{◌≡◌, sym, ◌∙◌, ap}
 use mathlib.Core.Bool.{false}
 use native.Mathlib.Omega.{arith}
-use Rattle.model.specs.Graph.{Graph, shapeWrong, startWrong}
-use Rattle.model.specs.Checked.{GoodShape, good-shape}
-use Rattle.fst.specs.Answer.{graph_of, foundOf}
-use Rattle.fst.proofs.States.{words-unread}
-use Rattle.fst.proofs.Whole.{arcs, ends, shape-refused, start-refused, arc-refused, final-refused, accepted}
+use Rattle.model.specs.Graph.{Graph, shape_wrong, start_wrong}
+use Rattle.model.specs.Checked.{GoodShape, good_shape}
+use Rattle.fst.specs.Answer.{graph_of, found_of}
+use Rattle.fst.proofs.States.{words_unread}
+use Rattle.fst.proofs.Whole.{arcs, ends, shape_refused, start_refused, arc_refused, final_refused, accepted}
 use Rattle.fst.proofs.build.Statement.{statement}
 use Rattle.fst.proofs.build.Tie as tie
 
@@ -18,22 +18,22 @@ graph s =
 
 -- what each check that did not refuse says
 
-right-shape : (c : tie.Else1) → false ≡ shapeWrong (graph c.before.before.before.before.before.before)
-unfolding shapeWrong
+right-shape : (c : tie.Else1) → false ≡ shape_wrong (graph c.before.before.before.before.before.before)
+unfolding shape_wrong
 right-shape c = sym c.if1.false ∙ c.before.shape-wrong.ensures
 
 good : (c : tie.Else1) → GoodShape (graph c.before.before.before.before.before.before)
-good c = good-shape (graph c.before.before.before.before.before.before) (sym (right-shape c))
+good c = good_shape (graph c.before.before.before.before.before.before) (sym (right-shape c))
 
-right-start : (c : tie.Else2) → false ≡ startWrong (graph c.before.before.before.before.before.before.before.before)
-unfolding startWrong
+right-start : (c : tie.Else2) → false ≡ start_wrong (graph c.before.before.before.before.before.before.before.before)
+unfolding start_wrong
 right-start c = sym c.if2.false ∙ c.before.start-wrong.ensures
 
-found-arcs : (c : tie.After-check-states) → c.check-states.result ≡ foundOf (arcs (graph c.before.before.before.before.before.before.before.before.before))
+found-arcs : (c : tie.After-check-states) → c.check-states.result ≡ found_of (arcs (graph c.before.before.before.before.before.before.before.before.before))
 found-arcs c =
     let a = c.before.before.before.before.before.before.before.before.before.args in
     c.check-states.ensures ∙
-    ap foundOf (words-unread a.offsets.now a.ilabels.now a.olabels.now a.weights.now a.nextstates.now a.finals.now a.tid2pdf.now a.tid2phone.now a.start a.pdfs)
+    ap found_of (words_unread a.offsets.now a.ilabels.now a.olabels.now a.weights.now a.nextstates.now a.finals.now a.tid2pdf.now a.tid2phone.now a.start a.pdfs)
 
 shape-wrong-requires : tie.Need-shape-wrong-requires
 shape-wrong-requires c κs = search rules
@@ -42,10 +42,10 @@ refused-requires : tie.Need-refused-requires
 refused-requires c κs = search rules
 
 returns : tie.Need-returns
-unfolding shapeWrong
+unfolding shape_wrong
 returns c =
     let d = c.before.before in
-    c.refused.ensures ∙ shape-refused (graph d.before.before.before.before.before) (sym c.before.if1.true ∙ d.shape-wrong.ensures)
+    c.refused.ensures ∙ shape_refused (graph d.before.before.before.before.before) (sym c.before.if1.true ∙ d.shape-wrong.ensures)
 
 start-wrong-requires : tie.Need-start-wrong-requires
 start-wrong-requires c κs = search rules
@@ -54,10 +54,10 @@ refused-requires-2 : tie.Need-refused-requires-2
 refused-requires-2 c κs = search rules
 
 returns-2 : tie.Need-returns-2
-unfolding startWrong
+unfolding start_wrong
 returns-2 c =
     let d = c.before.before in
-    c.refused2.ensures ∙ start-refused (graph d.before.before.before.before.before.before.before) (right-shape d.before) (sym c.before.if2.true ∙ d.start-wrong.ensures)
+    c.refused2.ensures ∙ start_refused (graph d.before.before.before.before.before.before.before) (right-shape d.before) (sym c.before.if2.true ∙ d.start-wrong.ensures)
 
 check-states-requires : tie.Need-check-states-requires
 check-states-requires c κs =
@@ -80,7 +80,7 @@ enum-known-arcs c = search rules
 returns-3 : tie.Need-returns-3
 returns-3 c =
     let d = c.before.before.before.before in
-    arc-refused (graph d.before.before.before.before.before.before.before.before.before) (right-shape d.before.before.before) (right-start d.before) c.before.arcs.given.0.0 (sym c.before.arcs.given.1 ∙ found-arcs d)
+    arc_refused (graph d.before.before.before.before.before.before.before.before.before) (right-shape d.before.before.before) (right-start d.before) c.before.arcs.given.0.0 (sym c.before.arcs.given.1 ∙ found-arcs d)
 
 enum_told : tie.Need-enum-told
 enum_told c = search rules
@@ -93,7 +93,7 @@ returns-4 c =
     let t = c.before.before.before in
     let f = t.before.before in
     let d = f.before in
-    final-refused (graph d.before.before.before.before.before.before.before.before.before) (right-shape d.before.before.before) (right-start d.before) (sym t.enum_told.given.1 ∙ found-arcs d) c.before.ends.given.0.0 (sym c.before.ends.given.1 ∙ f.check-finals.ensures)
+    final_refused (graph d.before.before.before.before.before.before.before.before.before) (right-shape d.before.before.before) (right-start d.before) (sym t.enum_told.given.1 ∙ found-arcs d) c.before.ends.given.0.0 (sym c.before.ends.given.1 ∙ f.check-finals.ensures)
 
 enum-told-2 : tie.Need-enum-told-2
 enum-told-2 c = search rules

@@ -7,34 +7,34 @@ use lib.IntN.{ℤ}
 use mir.Syntax.{w32}
 use mir.ValLaws.{to_z-of_z}
 use Rattle.model.specs.Basics.{nowhere}
-use Rattle.model.specs.Graph.{weightWrong, refuseAt, checkArc}
-use Rattle.fst.specs.Answer.{tables_of, arcOf, number_of}
-use Rattle.fst.proofs.Labels.{labelNumber}
-use Rattle.fst.proofs.Arcs.{no_target, by-label, by-weight}
+use Rattle.model.specs.Graph.{weight_wrong, refuse_at, check_arc}
+use Rattle.fst.specs.Answer.{tables_of, arc_of, number_of}
+use Rattle.fst.proofs.Labels.{label_number}
+use Rattle.fst.proofs.Arcs.{no_target, by_label_lem, by_weight}
 use Rattle.fst.proofs.check_arc.Statement.{statement}
 use Rattle.fst.proofs.check_arc.Tie as tie
 
 -- what the callees ensure, of the label itself
 
-label-number : (d : tie.After-check-label) → let a = d.before.before.before.args in d.check-label.result ≡ labelNumber a.tid2pdf.now a.tid2phone.now a.pdfs a.ilabel
+label-number : (d : tie.After-check-label) → let a = d.before.before.before.args in d.check-label.result ≡ label_number a.tid2pdf.now a.tid2phone.now a.pdfs a.ilabel
 label-number d =
     let s = d.before.before.before in
     let a = s.args in
-    subst (λ (z : ℤ). d.check-label.result ≡ labelNumber a.tid2pdf.now a.tid2phone.now a.pdfs z) (to_z-of_z w32 a.ilabel s.ranges.ilabel) d.check-label.ensures
+    subst (λ (z : ℤ). d.check-label.result ≡ label_number a.tid2pdf.now a.tid2phone.now a.pdfs z) (to_z-of_z w32 a.ilabel s.ranges.ilabel) d.check-label.ensures
 
-weight-test : (d : tie.After-weight-wrong) → let a = d.before.before.before.before.before.args in d.weight-wrong.result ≡ weightWrong (arcOf a.ilabel a.weight 0)
+weight-test : (d : tie.After-weight-wrong) → let a = d.before.before.before.before.before.args in d.weight-wrong.result ≡ weight_wrong (arc_of a.ilabel a.weight 0)
 weight-test d =
     let s = d.before.before.before.before.before in
     let a = s.args in
-    subst (λ (z : ℤ). d.weight-wrong.result ≡ weightWrong (arcOf z a.weight 0)) (to_z-of_z w32 a.ilabel s.ranges.ilabel) d.weight-wrong.ensures
+    subst (λ (z : ℤ). d.weight-wrong.result ≡ weight_wrong (arc_of z a.weight 0)) (to_z-of_z w32 a.ilabel s.ranges.ilabel) d.weight-wrong.ensures
 
 -- the last test, of the weight, decides
 weighed : (d : tie.After-weight-wrong) (t : Bool) → d.weight-wrong.result ≡ t →
     let a = d.before.before.before.before.before.args in
-    number_of (refuseAt nowhere 5 t) ≡ number_of (checkArc (tables_of a.finals.now a.tid2pdf.now a.tid2phone.now a.pdfs) nowhere (arcOf a.ilabel a.weight a.nextstate))
+    number_of (refuse_at nowhere 5 t) ≡ number_of (check_arc (tables_of a.finals.now a.tid2pdf.now a.tid2phone.now a.pdfs) nowhere (arc_of a.ilabel a.weight a.nextstate))
 weighed d t e =
     let l = d.before.before in
-    by-weight _ _ _ _ _ _ _ (lt-leb _ _ l.before.if1.false) l.check-label.result (label-number l) d.before.if2.false t (sym e ∙ weight-test d)
+    by_weight _ _ _ _ _ _ _ (lt-leb _ _ l.before.if1.false) l.check-label.result (label-number l) d.before.if2.false t (sym e ∙ weight-test d)
 
 returns : tie.Need-returns
 returns c = no_target _ _ _ _ _ _ _ (le-leb _ _ c.if1.true)
@@ -45,7 +45,7 @@ check-label-requires c κs = search rules
 returns-2 : tie.Need-returns-2
 returns-2 c =
     let d = c.before in
-    by-label _ _ _ _ _ _ _ (lt-leb _ _ d.before.if1.false) d.check-label.result (label-number d) c.if2.true
+    by_label_lem _ _ _ _ _ _ _ (lt-leb _ _ d.before.if1.false) d.check-label.result (label-number d) c.if2.true
 
 weight-wrong-requires : tie.Need-weight-wrong-requires
 weight-wrong-requires c κs = search rules

@@ -9,16 +9,16 @@ use lib.ListN.{length, get_or}
 use mir.Syntax.{w32}
 use mir.Val.{of_z, to_z}
 use Rattle.model.specs.Basics.{nowhere}
-use Rattle.model.specs.Graph.{arcAt, checkArc}
-use Rattle.fst.specs.Answer.{withoutWords, number_of}
+use Rattle.model.specs.Graph.{arc_at, check_arc}
+use Rattle.fst.specs.Answer.{without_words, number_of}
 use Rattle.model.specs.Ints.{back}
-use Rattle.fst.proofs.Arcs.{whole, ahead, at_first, all_sound, arc-refused, arc-passed, arc-read}
+use Rattle.fst.proofs.Arcs.{whole, ahead, at_first, all_sound, arc_refused, arc_passed, arc_read}
 use Rattle.fst.proofs.check_arcs.Statement.{statement}
 use Rattle.fst.proofs.check_arcs.Tie as tie
 
 abbrev invariant-loop : tie.invariant-loop
 invariant-loop state ilabels weights nextstates finals tid2pdf tid2phone pdfs i₀ i-end i =
-    let g = withoutWords [] ilabels weights nextstates finals tid2pdf tid2phone pdfs in
+    let g = without_words [] ilabels weights nextstates finals tid2pdf tid2phone pdfs in
     (i ≤ length ilabels) × (whole g state (length ilabels) ≡ ahead g state (length ilabels) i)
 
 abbrev decreases-loop : tie.decreases-loop
@@ -26,19 +26,19 @@ decreases-loop state ilabels weights nextstates finals tid2pdf tid2phone pdfs i�
 
 number : (d : tie.After-check-arc invariant-loop decreases-loop) →
     let a = d.before.before.before.before.before.before.before.before.before.args in
-    let g = withoutWords [] a.ilabels.now a.weights.now a.nextstates.now a.finals.now a.tid2pdf.now a.tid2phone.now a.pdfs in
-    d.check-arc.result ≡ number_of (checkArc g nowhere (arcAt g a.state d.before.before.before.before.before.loop.i))
+    let g = without_words [] a.ilabels.now a.weights.now a.nextstates.now a.finals.now a.tid2pdf.now a.tid2phone.now a.pdfs in
+    d.check-arc.result ≡ number_of (check_arc g nowhere (arc_at g a.state d.before.before.before.before.before.loop.i))
 number d =
     let l = d.before.before.before.before.before.loop in
     let a = d.before.before.before.before.before.before.before.before.before.args in
     let z = get_or a.ilabels.now l.i (pos 0) in
     d.check-arc.ensures ∙
-    ap number_of (arc-read a.ilabels.now a.weights.now a.nextstates.now a.finals.now a.tid2pdf.now a.tid2phone.now a.pdfs a.state l.i (to_z w32 (of_z w32 z)) (back z d.before.before.before.check-arc-arg.given) (omega arith))
+    ap number_of (arc_read a.ilabels.now a.weights.now a.nextstates.now a.finals.now a.tid2pdf.now a.tid2phone.now a.pdfs a.state l.i (to_z w32 (of_z w32 z)) (back z d.before.before.before.check-arc-arg.given) (omega arith))
 
 loop-holds : tie.Need-loop-init invariant-loop decreases-loop
 loop-holds c =
     let a = c.before.before.before.args in
-    let g = withoutWords [] a.ilabels.now a.weights.now a.nextstates.now a.finals.now a.tid2pdf.now a.tid2phone.now a.pdfs in
+    let g = without_words [] a.ilabels.now a.weights.now a.nextstates.now a.finals.now a.tid2pdf.now a.tid2phone.now a.pdfs in
     (search rules, at_first g a.state (length a.ilabels.now))
 
 mul-check-arc : tie.Need-overflow-mul-check-arc invariant-loop decreases-loop
@@ -70,7 +70,7 @@ returns c =
     let d = c.before in
     let l = d.before.before.before.before.before.loop in
     let a = d.before.before.before.before.before.before.before.before.before.args in
-    arc-refused _ a.state (length a.ilabels.now) l.i l.invariant.1 (omega arith) d.check-arc.result (number d) c.if1.true
+    arc_refused _ a.state (length a.ilabels.now) l.i l.invariant.1 (omega arith) d.check-arc.result (number d) c.if1.true
 
 add-i : tie.Need-overflow-add-i invariant-loop decreases-loop
 add-i c = search rules
@@ -83,7 +83,7 @@ loop-again c =
     let d = c.before in
     let l = d.before.before.before.before.before.loop in
     let a = d.before.before.before.before.before.before.before.before.before.args in
-    (search rules, arc-passed _ a.state (length a.ilabels.now) l.i l.invariant.1 (omega arith) d.check-arc.result (number d) c.if1.false)
+    (search rules, arc_passed _ a.state (length a.ilabels.now) l.i l.invariant.1 (omega arith) d.check-arc.result (number d) c.if1.false)
 
 returns-2 : tie.Need-returns-2 invariant-loop decreases-loop
 returns-2 c =

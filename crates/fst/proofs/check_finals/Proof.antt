@@ -4,13 +4,13 @@ use mathlib.Core.Path.{◌≡◌, refl, sym, ◌∙◌}
 use Prim.Native.Nat.{◌≤◌, ◌-◌}
 use native.Mathlib.Omega.{arith}
 use lib.ListN.{length, drop}
-use Rattle.model.specs.Graph.{checkFinals}
+use Rattle.model.specs.Graph.{check_finals}
 use Rattle.fst.proofs.Weights.{all_fair, unfair, fair}
 use Rattle.fst.proofs.check_finals.Statement.{statement}
 use Rattle.fst.proofs.check_finals.Tie as tie
 
 abbrev invariant-loop : tie.invariant-loop
-invariant-loop finals s₀ s-end s = (s ≤ length finals) × (checkFinals 0 finals ≡ checkFinals s (drop s finals))
+invariant-loop finals s₀ s-end s = (s ≤ length finals) × (check_finals 0 finals ≡ check_finals s (drop s finals))
 
 abbrev decreases-loop : tie.decreases-loop
 decreases-loop finals s₀ s-end s = length finals - s

@@ -4,17 +4,17 @@ use mathlib.Core.Path.{◌≡◌, refl, sym, ◌∙◌}
 use Prim.Native.Nat.{◌≤◌, ◌<◌, ◌-◌, ◌+◌}
 use native.Mathlib.Omega.{arith}
 use lib.ListN.{length, drop}
-use Rattle.model.specs.Graph.{checkStates}
-use Rattle.fst.specs.Answer.{withoutWords, foundOf}
+use Rattle.model.specs.Graph.{check_states}
+use Rattle.fst.specs.Answer.{without_words, found_of}
 use Rattle.fst.proofs.Offsets.{between}
 use Rattle.lists.specs.Parts.{part_length}
-use Rattle.fst.proofs.States.{arcs, part-checked, all-states, state-refused, state-passed}
+use Rattle.fst.proofs.States.{arcs, part_checked, all_states_lem, state_refused, state_passed}
 use Rattle.fst.proofs.check_states.Statement.{statement}
 use Rattle.fst.proofs.check_states.Tie as tie
 
 abbrev invariant-loop : tie.invariant-loop
 invariant-loop offsets ilabels weights nextstates finals tid2pdf tid2phone pdfs s₀ s-end s =
-    (s ≤ length finals) × (checkStates (withoutWords offsets ilabels weights nextstates finals tid2pdf tid2phone pdfs) 0 offsets ≡ checkStates (withoutWords offsets ilabels weights nextstates finals tid2pdf tid2phone pdfs) s (drop s offsets))
+    (s ≤ length finals) × (check_states (without_words offsets ilabels weights nextstates finals tid2pdf tid2phone pdfs) 0 offsets ≡ check_states (without_words offsets ilabels weights nextstates finals tid2pdf tid2phone pdfs) s (drop s offsets))
 
 abbrev decreases-loop : tie.decreases-loop
 decreases-loop offsets ilabels weights nextstates finals tid2pdf tid2phone pdfs s₀ s-end s = length finals - s
@@ -32,13 +32,13 @@ part d =
 of-state : (d : tie.After-check-arcs invariant-loop decreases-loop) →
     let a = d.before.before.before.before.before.before.before.before.before.before.before.before.args in
     d.check-arcs.result ≡
-    foundOf (arcs (withoutWords a.offsets.now a.ilabels.now a.weights.now a.nextstates.now a.finals.now a.tid2pdf.now a.tid2phone.now a.pdfs) a.offsets.now d.before.before.before.before.before.before.before.loop.s)
+    found_of (arcs (without_words a.offsets.now a.ilabels.now a.weights.now a.nextstates.now a.finals.now a.tid2pdf.now a.tid2phone.now a.pdfs) a.offsets.now d.before.before.before.before.before.before.before.loop.s)
 of-state d =
     let f = d.before.before.before.before in
     let a = f.before.before.before.before.before.before.before.before.args in
     let b = part f in
     d.check-arcs.ensures ∙
-    part-checked a.offsets.now a.ilabels.now a.weights.now a.nextstates.now a.finals.now a.tid2pdf.now a.tid2phone.now a.pdfs f.before.before.before.loop.s f.before.first-arc.result f.first-arc2.result b.0 b.1 f.before.first-arc.ensures f.first-arc2.ensures
+    part_checked a.offsets.now a.ilabels.now a.weights.now a.nextstates.now a.finals.now a.tid2pdf.now a.tid2phone.now a.pdfs f.before.before.before.loop.s f.before.first-arc.result f.first-arc2.result b.0 b.1 f.before.first-arc.ensures f.first-arc2.ensures
 
 loop-holds : tie.Need-loop-init invariant-loop decreases-loop
 loop-holds c = (search rules, refl)
@@ -113,7 +113,7 @@ returns c =
     let d = c.before.before.before in
     let f = d.before.before.before.before in
     let l = f.before.before.before.loop in
-    state-refused _ _ l.s l.invariant.1 (within f) c.before.found.given.0.0 (sym c.before.found.given.1 ∙ of-state d)
+    state_refused _ _ l.s l.invariant.1 (within f) c.before.found.given.0.0 (sym c.before.found.given.1 ∙ of-state d)
 
 enum_told : tie.Need-enum-told invariant-loop decreases-loop
 enum_told c = search rules
@@ -129,10 +129,10 @@ loop-again c =
     let d = c.before.before in
     let f = d.before.before.before.before in
     let l = f.before.before.before.loop in
-    (search rules, state-passed _ _ l.s l.invariant.1 (within f) (sym c.enum_told.given.1 ∙ of-state d))
+    (search rules, state_passed _ _ l.s l.invariant.1 (within f) (sym c.enum_told.given.1 ∙ of-state d))
 
 returns-2 : tie.Need-returns-2 invariant-loop decreases-loop
-returns-2 c = let l = c.before.loop in all-states _ _ l.s l.invariant.1 (omega arith)
+returns-2 c = let l = c.before.loop in all_states_lem _ _ l.s l.invariant.1 (omega arith)
 
 pub check-states-spec : {M : Type 1} → statement M
 check-states-spec =

@@ -7,15 +7,15 @@ use native.Mathlib.Omega.{arith}
 use lib.ListN.{length, drop, set}
 use mir.Val.{bool_byte}
 use Rattle.model.specs.Graph.{Graph}
-use Rattle.fst.specs.Epsilons.{bit, epsBits}
-use Rattle.fst.proofs.Offsets.{some-offset, between}
-use Rattle.fst.proofs.Epsilons.{state-epsilon, byte, bits-more}
+use Rattle.fst.specs.Epsilons.{bit, eps_bits}
+use Rattle.fst.proofs.Offsets.{some_offset, between}
+use Rattle.fst.proofs.Epsilons.{state_epsilon, byte, bits_more}
 use Rattle.fst.proofs.fill_eps.Statement.{statement}
 use Rattle.fst.proofs.fill_eps.Tie as tie
 
 abbrev invariant-loop : tie.invariant-loop
 invariant-loop offsets ilabels table₀ s₀ s-end table s =
-    (s ≤ length offsets - 1) × (length table ≡ length table₀) × ((g : Graph) → g.offsets ≡ offsets → g.ilabels ≡ ilabels → table ≡ epsBits g s ++ drop s table₀)
+    (s ≤ length offsets - 1) × (length table ≡ length table₀) × ((g : Graph) → g.offsets ≡ offsets → g.ilabels ≡ ilabels → table ≡ eps_bits g s ++ drop s table₀)
 
 abbrev decreases-loop : tie.decreases-loop
 decreases-loop offsets ilabels table₀ s₀ s-end table s = length offsets - 1 - s
@@ -27,7 +27,7 @@ part d =
     between (length s.args.ilabels.now) s.args.offsets.now s.requires.0 d.before.before.before.loop.s (omega arith) d.before.first-arc.ensures d.first-arc2.ensures
 
 sub-s-end : tie.Need-overflow-sub-s-end invariant-loop decreases-loop
-sub-s-end c = let s = c.before.before in some-offset (length s.args.ilabels.now) s.args.offsets.now s.requires.0
+sub-s-end c = let s = c.before.before in some_offset (length s.args.ilabels.now) s.args.offsets.now s.requires.0
 
 loop-holds : tie.Need-loop-init invariant-loop decreases-loop
 loop-holds c = (search rules, search rules, λ g p q. refl)
@@ -80,11 +80,11 @@ loop-again c =
       search rules,
       λ g p q.
           ap (λ (t : List ℕ). set t l.s v) (l.invariant.2 g p q) ∙
-          bits-more g a.table.now l.s v h
+          bits_more g a.table.now l.s v h
           (byte c.has-eps.result ∙
           ap bit
           (c.has-eps.ensures ∙
-          state-epsilon a.offsets.now a.ilabels.now l.s f.before.first-arc.result f.first-arc2.result b.0 b.1 f.before.first-arc.ensures f.first-arc2.ensures g p q)),
+          state_epsilon a.offsets.now a.ilabels.now l.s f.before.first-arc.result f.first-arc2.result b.0 b.1 f.before.first-arc.ensures f.first-arc2.ensures g p q)),
     )
 
 same_length : tie.Need-same-length invariant-loop decreases-loop

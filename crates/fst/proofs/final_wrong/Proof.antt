@@ -3,7 +3,7 @@ use borrow.Author.Rules.{rules}
 use mathlib.Core.Path.{◌≡◌, sym, ◌∙◌, subst}
 use mathlib.Core.Bool.{true, false}
 use lib.Ieee.{Float, of_bits, lt}
-use Rattle.model.specs.Graph.{finalWrong}
+use Rattle.model.specs.Graph.{final_wrong}
 use Rattle.fst.proofs.final_wrong.Statement.{statement}
 use Rattle.fst.proofs.final_wrong.Tie as tie
 
@@ -11,14 +11,14 @@ is-tame-requires : tie.Need-is-tame-requires
 is-tame-requires c κs = search rules
 
 returns : tie.Need-returns
-unfolding finalWrong
+unfolding final_wrong
 returns c = simp (sym c.before.is-tame.ensures ∙ c.if1.true)
 
 infinity-requires : tie.Need-infinity-requires
 infinity-requires c κs = search rules
 
 returns-2 : tie.Need-returns-2
-unfolding finalWrong
+unfolding final_wrong
 returns-2 c =
     let f = c.before.before.before in
     let w = f.before.args.weight in
@@ -28,7 +28,7 @@ returns-2 c =
     )
 
 returns-3 : tie.Need-returns-3
-unfolding finalWrong of_bits
+unfolding final_wrong of_bits
 returns-3 c =
     let f = c.before.before.before in
     let w = f.before.args.weight in

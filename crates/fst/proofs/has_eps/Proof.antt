@@ -6,8 +6,8 @@ use native.Mathlib.Omega.{arith}
 use lib.IntN.{pos}
 use lib.ListN.{length, get_or, drop}
 use Rattle.lists.specs.Lists.{any}
-use Rattle.model.specs.Ints.{nonzero-yes, nonzero-no}
-use Rattle.fst.proofs.Epsilons.{epsilon, none_found, found, not-here}
+use Rattle.model.specs.Ints.{nonzero_yes, nonzero_no}
+use Rattle.fst.proofs.Epsilons.{epsilon, none_found, found, not_here}
 use Rattle.fst.proofs.has_eps.Statement.{statement}
 use Rattle.fst.proofs.has_eps.Tie as tie
 
@@ -30,7 +30,7 @@ returns : tie.Need-returns invariant-loop decreases-loop
 returns c =
     let l = c.before.before.before.loop in
     let z = get_or c.before.before.before.before.args.ilabels.now l.i (pos 0) in
-    found _ l.i l.invariant.1 (omega arith) (nonzero-no z (record { sfits = c.before.if12.given }) c.if1.true)
+    found _ l.i l.invariant.1 (omega arith) (nonzero_no z (record { sfits = c.before.if12.given }) c.if1.true)
 
 add-i : tie.Need-overflow-add-i invariant-loop decreases-loop
 add-i c = search rules
@@ -42,7 +42,7 @@ loop-again : tie.Need-loop-preserved invariant-loop decreases-loop
 loop-again c =
     let l = c.before.before.before.loop in
     let z = get_or c.before.before.before.before.args.ilabels.now l.i (pos 0) in
-    (search rules, not-here _ l.i l.invariant.1 (omega arith) (nonzero-yes z c.if1.false))
+    (search rules, not_here _ l.i l.invariant.1 (omega arith) (nonzero_yes z c.if1.false))
 
 returns-2 : tie.Need-returns-2 invariant-loop decreases-loop
 returns-2 c = none_found _ c.before.loop.i c.before.loop.invariant.1 (omega arith)

@@ -8,21 +8,21 @@ use lib.ListN.{get_or}
 use lib.Ieee.{Float, nan}
 use lib.Ieee.Scale.{finite}
 use Rattle.model.specs.Basics.{∞}
-use Rattle.model.specs.Graph.{Graph, isFinal}
+use Rattle.model.specs.Graph.{Graph, is_final}
 use Rattle.lists.specs.Members.{get_d_any}
-use Rattle.fst.proofs.Weights.{no-weight}
+use Rattle.fst.proofs.Weights.{no_weight}
 use Rattle.fst.proofs.is_final.Statement.{statement}
 use Rattle.fst.proofs.is_final.Tie as tie
 
 -- the definition's answer is of the list alone
 abbrev Told : tie.Start → Bool → Type 0
-Told s r = (g : Graph) → g.finals ≡ s.args.finals.now → r ≡ isFinal g s.args.state
+Told s r = (g : Graph) → g.finals ≡ s.args.finals.now → r ≡ is_final g s.args.state
 
 of-list : (s : tie.Start) (r : Bool) → r ≡ finite (get_or s.args.finals.now s.args.state ∞) → Told s r
 of-list s r e g p = e ∙ ap (λ (xs : List Float). finite (get_or xs s.args.state ∞)) (sym p)
 
 returns : tie.Need-returns
-returns c = let s = c.before.before in of-list s false (sym (no-weight s.args.finals.now s.args.state c.if1.true))
+returns c = let s = c.before.before in of-list s false (sym (no_weight s.args.finals.now s.args.state c.if1.true))
 
 mul-is-finite : tie.Need-overflow-mul-is-finite
 mul-is-finite c = search rules

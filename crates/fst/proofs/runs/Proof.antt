@@ -4,28 +4,28 @@ use mathlib.Core.Path.{◌≡◌}
 use Prim.Native.Nat.{◌<◌, ◌≤◌, ◌-◌, ◌^◌}
 use native.Mathlib.Omega.{arith}
 use lib.ListN.{length, drop}
-use Rattle.model.specs.Graph.{runsFrom0, runs as model-runs}
-use Rattle.fst.proofs.Offsets.{no-offsets, not-from-0, from-0, ends, falls, goes_on}
+use Rattle.model.specs.Graph.{runs_from0, runs as model-runs}
+use Rattle.fst.proofs.Offsets.{no_offsets, not_from_0, from_0, ends, falls, goes_on_lem}
 use Rattle.fst.proofs.runs.Statement.{statement}
 use Rattle.fst.proofs.runs.Tie as tie
 
 abbrev invariant-loop : tie.invariant-loop
-invariant-loop offsets arcs at₀ i₀ i-end at i = (i ≤ length offsets) × (at < 2 ^ 32) × (runsFrom0 arcs offsets ≡ model-runs at arcs (drop i offsets))
+invariant-loop offsets arcs at₀ i₀ i-end at i = (i ≤ length offsets) × (at < 2 ^ 32) × (runs_from0 arcs offsets ≡ model-runs at arcs (drop i offsets))
 
 abbrev decreases-loop : tie.decreases-loop
 decreases-loop offsets arcs at₀ i₀ i-end at i = length offsets - i
 
 returns : tie.Need-returns invariant-loop decreases-loop
-returns c = let a = c.before.args in no-offsets a.arcs a.offsets.now c.if1.true
+returns c = let a = c.before.args in no_offsets a.arcs a.offsets.now c.if1.true
 
 shared-slice-read-if2 : tie.Need-shared-slice-read-if2 invariant-loop decreases-loop
 shared-slice-read-if2 c = search rules
 
 returns-2 : tie.Need-returns-2 invariant-loop decreases-loop
-returns-2 c = let a = c.before.before.before.args in not-from-0 a.arcs a.offsets.now c.if2.true
+returns-2 c = let a = c.before.before.before.args in not_from_0 a.arcs a.offsets.now c.if2.true
 
 loop-holds : tie.Need-loop-init invariant-loop decreases-loop
-loop-holds c = let a = c.before.before.before.args in (search rules, search rules, from-0 a.arcs a.offsets.now c.before.before.if1.false c.if2.false)
+loop-holds c = let a = c.before.before.before.args in (search rules, search rules, from_0 a.arcs a.offsets.now c.before.before.if1.false c.if2.false)
 
 mul_next : tie.Need-overflow-mul-next invariant-loop decreases-loop
 mul_next c = search rules
@@ -45,7 +45,7 @@ loop-less c = search rules
 loop-again : tie.Need-loop-preserved invariant-loop decreases-loop
 loop-again c =
     let l = c.before.before.before.loop in
-    (search rules, omega (arith, c.before.shared-slice-known2.given l.i), goes_on _ _ l.at l.i l.invariant.2 (omega arith) c.if3.false)
+    (search rules, omega (arith, c.before.shared-slice-known2.given l.i), goes_on_lem _ _ l.at l.i l.invariant.2 (omega arith) c.if3.false)
 
 cast-result : tie.Need-overflow-cast-result invariant-loop decreases-loop
 cast-result c = search rules

@@ -8,7 +8,7 @@ use native.Mathlib.Numerals.{add-one}
 use native.Mathlib.Omega.{arith}
 use lib.Dec.{ltb}
 use lib.ListN.{length}
-use Rattle.model.specs.Graph.{shapeWrong}
+use Rattle.model.specs.Graph.{shape_wrong}
 use Rattle.fst.proofs.shape_wrong.Statement.{statement}
 use Rattle.fst.proofs.shape_wrong.Tie as tie
 
@@ -24,45 +24,45 @@ no-more-ids : (n : ℕ) → n ≤ 65_537 → ltb 65_536 (n - 1) ≡ false
 no-more-ids n h = le-ltb 65_536 (n - 1) (omega arith)
 
 returns : tie.Need-returns
-unfolding shapeWrong
+unfolding shape_wrong
 returns c = simp (lt-ltb _ _ c.if1.true)
 
 returns-2 : tie.Need-returns-2
-unfolding shapeWrong
+unfolding shape_wrong
 returns-2 c = simp (lt-ltb _ _ c.if2.true, or-true)
 
 returns-3 : tie.Need-returns-3
-unfolding shapeWrong
+unfolding shape_wrong
 returns-3 c = simp (more-ids _ c.if3.true, or-true)
 
 returns-4 : tie.Need-returns-4
-unfolding shapeWrong
+unfolding shape_wrong
 returns-4 c = simp (more-ids _ c.if4.true, or-true)
 
 add-if5 : tie.Need-overflow-add-if5
 add-if5 c = search rules
 
 returns-5 : tie.Need-returns-5
-unfolding shapeWrong
+unfolding shape_wrong
 returns-5 c = let a = c.before.before.before.before.before.before.before.before.before.args in simp (ne_eqb (length a.offsets.now) (suc (length a.finals.now)) (λ e. c.if5.true (e ∙ sym (add-one (length a.finals.now)))), or-true)
 
 returns-6 : tie.Need-returns-6
-unfolding shapeWrong
+unfolding shape_wrong
 returns-6 c = simp (ne_eqb _ _ c.if6.true, or-true)
 
 returns-7 : tie.Need-returns-7
-unfolding shapeWrong
+unfolding shape_wrong
 returns-7 c = simp (ne_eqb _ _ c.if7.true, or-true)
 
 returns-8 : tie.Need-returns-8
-unfolding shapeWrong
+unfolding shape_wrong
 returns-8 c = simp (ne_eqb _ _ c.if8.true, or-true)
 
 runs-requires : tie.Need-runs-requires
 runs-requires c κs = search rules
 
 returns-9 : tie.Need-returns-9
-unfolding shapeWrong
+unfolding shape_wrong
 returns-9 c =
     let d = c.before in
     let a = d.before.before.before.before.before.before.before.before.before.before.before.before.args in

@@ -5,10 +5,10 @@ use Prim.Native.Nat.{ℕ, ◌-◌, ◌≤◌, ◌<◌}
 use mathlib.Core.Bool.{not}
 use lib.Dec.{eqb}
 use lib.ListN.{length, take}
-use Rattle.lists.specs.Lists.{keepIf}
+use Rattle.lists.specs.Lists.{keep_if}
 use Rattle.groups.specs.Firsts.{dropped}
 use Rattle.lists.specs.Tests.{next_fits}
-use Rattle.groups.specs.Laws.{ClosedTo, closed_none, closed-next}
+use Rattle.groups.specs.Laws.{ClosedTo, closed_none, closed_next}
 use Rattle.groups.proofs.close_up.Statement.{statement}
 use Rattle.groups.proofs.close_up.Tie as tie
 
@@ -39,13 +39,13 @@ loop-less : tie.Need-loop-smaller invariant-loop decreases-loop
 loop-less c = omega arith
 
 loop-again : tie.Need-loop-preserved invariant-loop decreases-loop
-loop-again c = (omega arith, closed-next c.before.before.before.before.before.before.loop.invariant.1 (let k = c.before.before.before.before.before.before.before.before.requires in omega arith) _ refl c.before.before.keep_at.ensures)
+loop-again c = (omega arith, closed_next c.before.before.before.before.before.before.loop.invariant.1 (let k = c.before.before.before.before.before.before.before.before.requires in omega arith) _ refl c.before.before.keep_at.ensures)
 
 same_length : tie.Need-same-length invariant-loop decreases-loop
 same_length c = c.before.loop.invariant.1.same_length
 
 returns : tie.Need-returns invariant-loop decreases-loop
-returns c = let C = c.before.loop.invariant.1 in let l = c.loop-test.false in let e : c.before.loop.i ≡ c.before.before.before.args.n = let z = c.before.loop.invariant.0 in omega arith in record { few = let f = C.few in omega arith; is = C.is ∙ ap (λ (k : ℕ). keepIf (λ s. not (eqb s dropped)) (take k c.before.before.before.args.order.now)) e }
+returns c = let C = c.before.loop.invariant.1 in let l = c.loop-test.false in let e : c.before.loop.i ≡ c.before.before.before.args.n = let z = c.before.loop.invariant.0 in omega arith in record { few = let f = C.few in omega arith; is = C.is ∙ ap (λ (k : ℕ). keep_if (λ s. not (eqb s dropped)) (take k c.before.before.before.args.order.now)) e }
 
 pub close-up-spec : {M : Type 1} → statement M
 close-up-spec =

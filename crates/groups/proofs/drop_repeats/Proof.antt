@@ -1,7 +1,7 @@
 -- Those from the j-th sorted place on are judged, and what the others stand for is untouched.
 use native.Mathlib.Omega.{arith}
 use Prim.Native.Nat.{◌-◌}
-use Rattle.groups.specs.Laws.{DroppedTo, dropped-none, repeats-asks, dropped-next}
+use Rattle.groups.specs.Laws.{DroppedTo, dropped_none, repeats_asks, dropped_next}
 use Rattle.groups.proofs.drop_repeats.Statement.{statement}
 use Rattle.groups.proofs.drop_repeats.Tie as tie
 
@@ -14,13 +14,13 @@ decreases-loop tokens records labels side used history-skips to-join order₀ n 
     j
 
 loop-holds : tie.Need-loop-init invariant-loop decreases-loop
-loop-holds c = dropped-none
+loop-holds c = dropped_none
 
 sub-j : tie.Need-overflow-sub-j invariant-loop decreases-loop
 sub-j c = c.loop-test.true
 
 repeats-requires : tie.Need-repeats-requires invariant-loop decreases-loop
-repeats-requires c κs = (repeats-asks c.before.before.before.before.before.before.before.before.before.requires.0 c.before.before.loop.invariant c.before.loop-test.true, c.before.before.before.before.before.before.before.before.before.requires.1)
+repeats-requires c κs = (repeats_asks c.before.before.before.before.before.before.before.before.before.requires.0 c.before.before.loop.invariant c.before.loop-test.true, c.before.before.before.before.before.before.before.before.before.requires.1)
 
 mul-drop-at : tie.Need-overflow-mul-drop-at invariant-loop decreases-loop
 mul-drop-at c = record { fits = let g = c.before.before.before.before.before.before.before.before.before.before.before.well-formed.1.1.1.1.1.1.1.1.1.1.0.0 in let z = c.before.before.before.before.before.before.before.before.before.before.before.requires.0.places-long in let l = c.before.before.before.before.loop.invariant.low in omega arith }
@@ -35,7 +35,7 @@ loop-less : tie.Need-loop-smaller invariant-loop decreases-loop
 loop-less c = omega arith
 
 loop-again : tie.Need-loop-preserved invariant-loop decreases-loop
-loop-again c = dropped-next c.before.before.before.before.before.before.before.before.before.before.before.before.before.before.before.requires.0 c.before.before.before.before.before.before.before.before.loop.invariant c.before.before.before.before.before.before.before.loop-test.true _ c.before.before.before.before.before.repeats.ensures _ c.before.before.drop_at.ensures
+loop-again c = dropped_next c.before.before.before.before.before.before.before.before.before.before.before.before.before.before.before.requires.0 c.before.before.before.before.before.before.before.before.loop.invariant c.before.before.before.before.before.before.before.loop-test.true _ c.before.before.before.before.before.repeats.ensures _ c.before.before.drop_at.ensures
 
 same_length : tie.Need-same-length invariant-loop decreases-loop
 same_length c = c.before.loop.invariant.same_length

@@ -2,7 +2,7 @@
 use native.Mathlib.Omega.{arith}
 use Prim.Native.Nat.{◌-◌, ◌≤◌}
 use Rattle.lists.specs.Tests.{next_fits}
-use Rattle.groups.specs.Laws.{FilledTo, key-read, filled_none, filled_next}
+use Rattle.groups.specs.Laws.{FilledTo, key_read, filled_none, filled_next}
 use Rattle.groups.proofs.fill_keys.Statement.{statement}
 use Rattle.groups.proofs.fill_keys.Tie as tie
 
@@ -51,7 +51,7 @@ loop-less : tie.Need-loop-smaller invariant-loop decreases-loop
 loop-less c = omega arith
 
 loop-again : tie.Need-loop-preserved invariant-loop decreases-loop
-loop-again c = (omega arith, filled_next c.before.before.before.before.loop.invariant.1 (let z = c.before.before.before.before.before.before.before.before.before.before.before.requires.1 in omega arith) (let z = c.before.before.before.before.before.before.before.before.before.before.before.requires.2 in omega arith) _ (key-read c.before.before.before.before.before.before.before.before.before.before.before.requires.3 (c.before.before.before.before.before.before.before.before.before.before.before.requires.0.each _ c.before.before.before.loop-test.true).low c.before.link-at.ensures c.key-at.ensures))
+loop-again c = (omega arith, filled_next c.before.before.before.before.loop.invariant.1 (let z = c.before.before.before.before.before.before.before.before.before.before.before.requires.1 in omega arith) (let z = c.before.before.before.before.before.before.before.before.before.before.before.requires.2 in omega arith) _ (key_read c.before.before.before.before.before.before.before.before.before.before.before.requires.3 (c.before.before.before.before.before.before.before.before.before.before.before.requires.0.each _ c.before.before.before.loop-test.true).low c.before.link-at.ensures c.key-at.ensures))
 
 same_length : tie.Need-same-length invariant-loop decreases-loop
 same_length c = c.before.loop.invariant.1.keys_length

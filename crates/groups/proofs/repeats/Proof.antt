@@ -4,7 +4,7 @@ use native.Mathlib.Omega.{arith}
 use mathlib.Core.Bool.{Bool}
 use Prim.Native.Nat.{◌-◌}
 use Rattle.histories.specs.Reading.{SameIs}
-use Rattle.groups.specs.Laws.{AloneTo, alone-none, other_key, no_other, same-found, alone-next}
+use Rattle.groups.specs.Laws.{AloneTo, alone_none, other_key, no_other, same_found, alone_next}
 use Rattle.groups.proofs.repeats.Statement.{statement}
 use Rattle.groups.proofs.repeats.Tie as tie
 
@@ -35,7 +35,7 @@ link-at-requires : tie.Need-link-at-requires invariant-loop decreases-loop
 link-at-requires c κs = (c.before.before.before.before.before.before.before.before.requires.0.side, (c.before.before.before.before.before.before.before.before.requires.0.each c.before.before.before.before.before.before.before.before.args.j (omega arith)).inside)
 
 loop-holds : tie.Need-loop-init invariant-loop decreases-loop
-loop-holds c = alone-none _ _ _ _ _ _ _ _ _ _
+loop-holds c = alone_none _ _ _ _ _ _ _ _ _ _
 
 sub-if1 : tie.Need-overflow-sub-if1 invariant-loop decreases-loop
 sub-if1 c = c.loop-test.true
@@ -80,13 +80,13 @@ same-at-requires : tie.Need-same-at-requires invariant-loop decreases-loop
 same-at-requires c κs = (c.before.before.before.before.before.before.before.before.before.before.before.before.before.before.before.before.before.requires.0.chains, c.before.before.before.before.before.before.before.before.before.before.before.before.before.before.before.before.before.requires.1, let z = (c.before.before.before.before.before.before.before.before.before.before.before.before.before.before.before.before.before.requires.0.each c.before.before.before.before.before.before.before.before.before.before.before.before.before.before.before.before.before.args.j (omega arith)).low in let k = c.before.before.before.before.before.before.before.before.link-at.ensures in omega arith, let z = (c.before.before.before.before.before.before.before.before.before.before.before.before.before.before.before.before.before.requires.0.each (c.before.before.before.before.before.before.before.loop.i - 1) (let l = c.before.before.before.before.before.before.before.loop.invariant.low in omega arith)).low in let k = c.link-at2.ensures in omega arith)
 
 returns-2 : tie.Need-returns-2 invariant-loop decreases-loop
-returns-2 c = same-found _ _ _ _ _ _ _ _ _ _ c.before.before.before.before.before.before.before.before.before.loop.invariant c.before.before.before.before.before.before.before.before.loop-test.true _ _ c.before.before.before.before.before.before.before.before.before.before.link-at.ensures c.before.before.link-at2.ensures c.before.before.before.before.before.if1.false (subst (λ (r : Bool). SameIs c.before.before.before.before.before.before.before.before.before.before.before.before.before.before.before.before.before.before.before.args.records.now c.before.before.before.before.before.before.before.before.before.before.before.before.before.before.before.before.before.before.before.args.labels.now c.before.before.before.before.before.before.before.before.before.before.before.before.before.before.before.before.before.before.before.args.used c.before.before.before.before.before.before.before.before.before.before.link-at.result c.before.before.link-at2.result c.before.before.before.before.before.before.before.before.before.before.before.before.before.before.before.before.before.before.before.args.to-join r) c.if2.true c.before.same_at.ensures)
+returns-2 c = same_found _ _ _ _ _ _ _ _ _ _ c.before.before.before.before.before.before.before.before.before.loop.invariant c.before.before.before.before.before.before.before.before.loop-test.true _ _ c.before.before.before.before.before.before.before.before.before.before.link-at.ensures c.before.before.link-at2.ensures c.before.before.before.before.before.if1.false (subst (λ (r : Bool). SameIs c.before.before.before.before.before.before.before.before.before.before.before.before.before.before.before.before.before.before.before.args.records.now c.before.before.before.before.before.before.before.before.before.before.before.before.before.before.before.before.before.before.before.args.labels.now c.before.before.before.before.before.before.before.before.before.before.before.before.before.before.before.before.before.before.before.args.used c.before.before.before.before.before.before.before.before.before.before.link-at.result c.before.before.link-at2.result c.before.before.before.before.before.before.before.before.before.before.before.before.before.before.before.before.before.before.before.args.to-join r) c.if2.true c.before.same_at.ensures)
 
 loop-less : tie.Need-loop-smaller invariant-loop decreases-loop
 loop-less c = omega arith
 
 loop-again : tie.Need-loop-preserved invariant-loop decreases-loop
-loop-again c = alone-next _ _ _ _ _ _ _ _ _ _ c.before.before.before.before.before.before.before.before.before.loop.invariant c.before.before.before.before.before.before.before.before.loop-test.true _ _ c.before.before.before.before.before.before.before.before.before.before.link-at.ensures c.before.before.link-at2.ensures (subst (λ (r : Bool). SameIs c.before.before.before.before.before.before.before.before.before.before.before.before.before.before.before.before.before.before.before.args.records.now c.before.before.before.before.before.before.before.before.before.before.before.before.before.before.before.before.before.before.before.args.labels.now c.before.before.before.before.before.before.before.before.before.before.before.before.before.before.before.before.before.before.before.args.used c.before.before.before.before.before.before.before.before.before.before.link-at.result c.before.before.link-at2.result c.before.before.before.before.before.before.before.before.before.before.before.before.before.before.before.before.before.before.before.args.to-join r) c.if2.false c.before.same_at.ensures)
+loop-again c = alone_next _ _ _ _ _ _ _ _ _ _ c.before.before.before.before.before.before.before.before.before.loop.invariant c.before.before.before.before.before.before.before.before.loop-test.true _ _ c.before.before.before.before.before.before.before.before.before.before.link-at.ensures c.before.before.link-at2.ensures (subst (λ (r : Bool). SameIs c.before.before.before.before.before.before.before.before.before.before.before.before.before.before.before.before.before.before.before.args.records.now c.before.before.before.before.before.before.before.before.before.before.before.before.before.before.before.before.before.before.before.args.labels.now c.before.before.before.before.before.before.before.before.before.before.before.before.before.before.before.before.before.before.before.args.used c.before.before.before.before.before.before.before.before.before.before.link-at.result c.before.before.link-at2.result c.before.before.before.before.before.before.before.before.before.before.before.before.before.before.before.before.before.before.before.args.to-join r) c.if2.false c.before.same_at.ensures)
 
 returns-3 : tie.Need-returns-3 invariant-loop decreases-loop
 returns-3 c = no_other _ _ _ _ _ _ _ _ _ _ c.before.loop.invariant (let l = c.loop-test.false in omega arith)

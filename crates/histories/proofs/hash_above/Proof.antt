@@ -2,7 +2,7 @@
 use Rattle.std.proofs.Common.{◌-◌, ap, ◌∙◌, arith, rules}
 use Rattle.model.specs.Ints.{back}
 use Rattle.histories.specs.Reading.{older}
-use Rattle.histories.proofs.Steps.{Hashing, hashing-none, hashing-more, hashing-end}
+use Rattle.histories.proofs.Steps.{Hashing, hashing_none, hashing_more, hashing_end}
 use Rattle.histories.proofs.hash_above.Statement.{statement}
 use Rattle.histories.proofs.hash_above.Tie as tie
 
@@ -16,7 +16,7 @@ next-word-requires : tie.Need-next-word-requires invariant-loop decreases-loop
 next-word-requires c κs = search rules
 
 loop-holds : tie.Need-loop-init invariant-loop decreases-loop
-loop-holds c = hashing-none c.next_word.ensures
+loop-holds c = hashing_none c.next_word.ensures
 
 word-of-requires : tie.Need-word-of-requires invariant-loop decreases-loop
 word-of-requires c κs = search rules
@@ -46,12 +46,12 @@ loop-again c =
     let s = l.before.before.before in
     let w = c.before.before.before.word_of in
     let p = c.before.prev-of in
-    hashing-more l.loop.invariant c.before.before.before.before.loop-test.true w.ensures
+    hashing_more l.loop.invariant c.before.before.before.before.loop-test.true w.ensures
     (c.before.before.hash-older.ensures ∙ ap (older l.loop.h) (back w.result w.type-inv)) p.ensures
     (omega (arith, s.requires.0.prev-low (l.loop.r - 1) (omega (arith, l.loop.invariant.low)), p.ensures)) c.next-word2.ensures
 
 returns : tie.Need-returns invariant-loop decreases-loop
-returns c = hashing-end c.before.loop.invariant c.loop-test.false
+returns c = hashing_end c.before.loop.invariant c.loop-test.false
 
 pub hash-above-spec : {M : Type 1} → statement M
 hash-above-spec =

@@ -2,7 +2,7 @@
 use Rattle.std.proofs.Common.{ap, ◌∙◌, rules}
 use Rattle.model.specs.Basics.{unsigned}
 use Rattle.model.specs.Ints.{back}
-use Rattle.histories.proofs.Steps.{older-is}
+use Rattle.histories.proofs.Steps.{older_is}
 use Rattle.histories.proofs.hash_older.Statement.{statement}
 use Rattle.histories.proofs.hash_older.Tie as tie
 
@@ -30,7 +30,7 @@ returns c =
     let u = m.before in
     let s = u.before in
     let w = s.args.word in
-    older-is s.args.h w (u.Unsigned-of.ensures ∙ ap unsigned (back w s.ranges.word.sfits)) m.wrapping-mul.ensures c.before.before.wrapping-add-u64.ensures
+    older_is s.args.h w (u.Unsigned-of.ensures ∙ ap unsigned (back w s.ranges.word.sfits)) m.wrapping-mul.ensures c.before.before.wrapping-add-u64.ensures
     c.before.wrapping-mul2.ensures
 
 pub hash-older-spec : {M : Type 1} → statement M

@@ -12,7 +12,7 @@ use Rattle.model.specs.Ints.{back}
 use Rattle.records.specs.Layout.{Store}
 use Rattle.tokens.specs.declared.Token.{Token}
 use Rattle.joins.specs.declared.Margin.{Margin}
-use Rattle.joins.specs.Keep.{KeptIs, dropsLoser, findsFull, joinsLoser}
+use Rattle.joins.specs.Keep.{KeptIs, drops_loser, finds_full, joins_loser}
 use borrow.Author.Rules.{rules}
 use Rattle.joins.proofs.keep.Statement.{statement}
 use Rattle.joins.proofs.keep.Tie as tie
@@ -39,7 +39,7 @@ returns : tie.Need-returns
 returns c =
     let k = c.before in
     let s = k.before.before.before.before.before.before in
-    dropsLoser (answered s.args.over s.ranges.over.sfits (not-true k.is-kept.result c.if1.true) k.is-kept.ensures) refl
+    drops_loser (answered s.args.over s.ranges.over.sfits (not-true k.is-kept.result c.if1.true) k.is-kept.ensures) refl
 
 same-length-4 : tie.Need-same-length-4
 same-length-4 c = search rules
@@ -54,7 +54,7 @@ returns-2 : tie.Need-returns-2
 returns-2 c =
     let k = c.before.before in
     let s = k.before.before.before.before.before.before in
-    findsFull (answered s.args.over s.ranges.over.sfits (not-false k.is-kept.result c.before.if1.false) k.is-kept.ensures) c.if2.true refl
+    finds_full (answered s.args.over s.ranges.over.sfits (not-false k.is-kept.result c.before.if1.false) k.is-kept.ensures) c.if2.true refl
 
 put-join-requires : tie.Need-put-join-requires
 put-join-requires c κs = search rules
@@ -74,7 +74,7 @@ returns-3 c =
     let i = j.before.before.before.before.before.before in
     let k = i.before.before in
     let s = k.before.before.before.before.before.before in
-    joinsLoser (answered s.args.over s.ranges.over.sfits (not-false k.is-kept.result i.before.if1.false) k.is-kept.ensures) (omega (arith, i.if2.false, s.requires.fits))
+    joins_loser (answered s.args.over s.ranges.over.sfits (not-false k.is-kept.result i.before.if1.false) k.is-kept.ensures) (omega (arith, i.if2.false, s.requires.fits))
     (rw (back s.args.over s.ranges.over.sfits) at j.put-join.ensures)
 
 pub keep_spec : {M : Type 1} → statement M

@@ -2,7 +2,7 @@
 use Prim.Native.Nat.{◌-◌}
 use mathlib.Core.Path.{sym, ◌∙◌}
 use Rattle.records.specs.Layout.{store}
-use Rattle.joins.proofs.Steps.{Walked, walked_none, walked-won, walked-lost, walked-fits, walked-met}
+use Rattle.joins.proofs.Steps.{Walked, walked_none, walked_won, walked_lost, walked_fits, walked_met}
 use Rattle.joins.proofs.meet.Statement.{statement}
 use Rattle.joins.proofs.meet.Tie as tie
 use borrow.Author.Rules.{rules}
@@ -39,7 +39,7 @@ loop-again : tie.Need-loop-preserved invariant-loop decreases-loop invariant-apa
 loop-again c =
     let l = c.before.before.before in
     let s = l.before.before.before.before in
-    walked-won (l.loop.a - 1) s.requires.0.prev-low c.prev-of.ensures (omega arith) (omega arith) l.loop.invariant
+    walked_won (l.loop.a - 1) s.requires.0.prev-low c.prev-of.ensures (omega arith) (omega arith) l.loop.invariant
 
 join-within-requires : tie.Need-join-within-requires invariant-loop decreases-loop invariant-apart decreases-apart
 join-within-requires c κs = search rules
@@ -47,7 +47,7 @@ join-within-requires c κs = search rules
 returns : tie.Need-returns invariant-loop decreases-loop invariant-apart decreases-apart
 returns c =
     let l = c.before.before.before in
-    walked-fits (l.before.apart.b - 1) (omega arith) (omega arith) (sym c.before.join-within.ensures ∙ c.if2.true) l.loop.invariant
+    walked_fits (l.before.apart.b - 1) (omega arith) (omega arith) (sym c.before.join-within.ensures ∙ c.if2.true) l.loop.invariant
 
 prev-of-requires-2 : tie.Need-prev-of-requires-2 invariant-loop decreases-loop invariant-apart decreases-apart
 prev-of-requires-2 c κs = search rules
@@ -62,11 +62,11 @@ apart-again : tie.Need-apart-preserved invariant-loop decreases-loop invariant-a
 apart-again c =
     let l = c.before.before.before.before in
     let s = l.before.before.before.before in
-    walked-lost (l.before.apart.b - 1) s.requires.0.prev-low c.prev-of2.ensures (omega arith) (omega arith)
+    walked_lost (l.before.apart.b - 1) s.requires.0.prev-low c.prev-of2.ensures (omega arith) (omega arith)
     (sym c.before.before.join-within.ensures ∙ c.before.if2.false) l.loop.invariant
 
 returns-2 : tie.Need-returns-2 invariant-loop decreases-loop invariant-apart decreases-apart
-returns-2 c = walked-met c.if1.true c.before.before.loop.invariant
+returns-2 c = walked_met c.if1.true c.before.before.loop.invariant
 
 pub meet-spec : {M : Type 1} → statement M
 meet-spec =

@@ -3,12 +3,12 @@ use Prim.Native.Nat.{ℕ, ◌-◌, ◌≤◌}
 use mathlib.Core.Path.{◌≡◌, refl, ◌∙◌}
 use mathlib.Core.List.{List}
 use lib.Ieee.{Float}
-use Rattle.model.specs.Ints.{nonzero-yes, nonzero-no}
+use Rattle.model.specs.Ints.{nonzero_yes, nonzero_no}
 use Rattle.records.specs.History.{History}
 use Rattle.records.specs.Layout.{store}
 use Rattle.records.specs.Stands.{Stands}
 use Rattle.joins.specs.Walk.{words_to}
-use Rattle.joins.proofs.Steps.{words-at, words-none}
+use Rattle.joins.proofs.Steps.{words_at, words_none}
 use Rattle.joins.proofs.next_word.Statement.{statement}
 use Rattle.joins.proofs.next_word.Tie as tie
 use borrow.Author.Rules.{rules}
@@ -34,8 +34,8 @@ returns c =
     record {
       low = l.loop.invariant.0;
       none = λ a. absurd (omega arith);
-      some = λ a gs h ok. l.loop.invariant.1 gs h ok ∙ words-at ok (l.loop.q - 1) s.args.met (omega arith) (omega arith) (omega arith)
-          ∙ simp (← w.ensures, nonzero-yes w.result c.if1.true);
+      some = λ a gs h ok. l.loop.invariant.1 gs h ok ∙ words_at ok (l.loop.q - 1) s.args.met (omega arith) (omega arith) (omega arith)
+          ∙ simp (← w.ensures, nonzero_yes w.result c.if1.true);
     }
 
 prev-of-requires : tie.Need-prev-of-requires invariant-loop decreases-loop
@@ -54,8 +54,8 @@ loop-again c =
     let w = c.before.before.word_of in
     let d = s.requires.0.prev-low (l.loop.q - 1) (omega arith) in (
       omega (arith, c.prev-of.ensures),
-      λ gs h ok. l.loop.invariant.1 gs h ok ∙ words-at ok (l.loop.q - 1) s.args.met (omega arith) (omega arith) (omega arith)
-          ∙ simp (← w.ensures, ← c.prev-of.ensures, nonzero-no w.result (record { sfits = w.type-inv }) c.before.if1.false),
+      λ gs h ok. l.loop.invariant.1 gs h ok ∙ words_at ok (l.loop.q - 1) s.args.met (omega arith) (omega arith) (omega arith)
+          ∙ simp (← w.ensures, ← c.prev-of.ensures, nonzero_no w.result (record { sfits = w.type-inv }) c.before.if1.false),
     )
 
 returns-2 : tie.Need-returns-2 invariant-loop decreases-loop
@@ -64,7 +64,7 @@ returns-2 c =
     let s = l.before.before in
     record {
       low = l.loop.invariant.0;
-      none = λ a gs h ok. l.loop.invariant.1 gs h ok ∙ words-none _ s.args.used h ok s.args.met l.loop.q (omega arith) a;
+      none = λ a gs h ok. l.loop.invariant.1 gs h ok ∙ words_none _ s.args.used h ok s.args.met l.loop.q (omega arith) a;
       some = λ a. absurd (omega arith);
     }
 

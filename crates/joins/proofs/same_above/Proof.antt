@@ -5,13 +5,13 @@ use mathlib.Core.List.{List}
 use lib.Ieee.{Float}
 use mir.Syntax.{w32}
 use mir.Val.{of_z}
-use Rattle.model.specs.Ints.{bits-eq}
+use Rattle.model.specs.Ints.{bits_eq}
 use Rattle.model.specs.Path.{same_words}
 use Rattle.records.specs.History.{History}
 use Rattle.records.specs.Layout.{store}
 use Rattle.records.specs.Stands.{Stands}
 use Rattle.joins.specs.Walk.{words_to}
-use Rattle.joins.proofs.Compare.{same_next, other-next, one-ends, next-is, ends_with, one-record}
+use Rattle.joins.proofs.Compare.{same_next, other_next, one_ends, next_is, ends_with, one_record}
 use Rattle.joins.proofs.same_above.Statement.{statement}
 use Rattle.joins.proofs.same_above.Tie as tie
 use borrow.Author.Rules.{rules}
@@ -37,7 +37,7 @@ next-word-requires-2 c κs = search rules
 returns : tie.Need-returns invariant-loop decreases-loop
 returns c =
     let l = c.before.before.before in
-    record { is = λ gs h ok. sym (l.loop.invariant.2 gs h ok ∙ one-record c.before.before.next_word.ensures c.before.next-word2.ensures c.if1.true gs h ok) }
+    record { is = λ gs h ok. sym (l.loop.invariant.2 gs h ok ∙ one_record c.before.before.next_word.ensures c.before.next-word2.ensures c.if1.true gs h ok) }
 
 returns-2 : tie.Need-returns-2 invariant-loop decreases-loop
 returns-2 c =
@@ -51,7 +51,7 @@ returns-3 c =
     let l = n.before.before in
     record {
       is = λ gs h ok. sym (l.loop.invariant.2 gs h ok
-          ∙ (one-ends (n.next-word2.ensures.none c.if3.true gs h ok) (n.before.next_word.ensures.some c.before.if2.false gs h ok)).1);
+          ∙ (one_ends (n.next-word2.ensures.none c.if3.true gs h ok) (n.before.next_word.ensures.some c.before.if2.false gs h ok)).1);
     }
 
 word-of-requires : tie.Need-word-of-requires invariant-loop decreases-loop
@@ -66,9 +66,9 @@ returns-4 c =
     let n = v.before.before.before.before in
     let l = n.before.before in
     record {
-      is = λ gs h ok. sym (l.loop.invariant.2 gs h ok ∙ other-next
-          (next-is n.before.next_word.ensures gs h ok v.before.before.if2.false v.word_of.ensures refl)
-          (next-is n.next-word2.ensures gs h ok v.before.if3.false c.before.word-of2.ensures refl)
+      is = λ gs h ok. sym (l.loop.invariant.2 gs h ok ∙ other_next
+          (next_is n.before.next_word.ensures gs h ok v.before.before.if2.false v.word_of.ensures refl)
+          (next_is n.next-word2.ensures gs h ok v.before.if3.false c.before.word-of2.ensures refl)
           (λ e. c.if4.true (ap (of_z w32) e)));
     }
 
@@ -99,9 +99,9 @@ loop-again c =
       omega (arith, s.requires.0.prev-low (p.result - 1) (omega (arith, p.ensures.low)), c.before.prev-of.ensures, p.ensures.low),
       omega (arith, s.requires.0.prev-low (q.result - 1) (omega (arith, q.ensures.low)), c.prev-of2.ensures, q.ensures.low),
       λ gs h ok. l.loop.invariant.2 gs h ok ∙ same_next
-          (next-is p.ensures gs h ok v.before.before.if2.false x.ensures c.before.prev-of.ensures)
-          (next-is q.ensures gs h ok v.before.if3.false y.ensures c.prev-of2.ensures)
-          (bits-eq x.result y.result (record { sfits = x.type-inv }) (record { sfits = y.type-inv }) c.before.before.if4.false),
+          (next_is p.ensures gs h ok v.before.before.if2.false x.ensures c.before.prev-of.ensures)
+          (next_is q.ensures gs h ok v.before.if3.false y.ensures c.prev-of2.ensures)
+          (bits_eq x.result y.result (record { sfits = x.type-inv }) (record { sfits = y.type-inv }) c.before.before.if4.false),
     )
 
 pub same-above-spec : {M : Type 1} → statement M

@@ -3,8 +3,8 @@ use Prim.Native.Nat.{◌-◌}
 use mathlib.Core.Path.{refl, sym, ap, ◌∙◌}
 use mir.Syntax.{w32}
 use mir.Val.{of_z}
-use Rattle.model.specs.Ints.{nonzero-yes, nonzero-no, bits-eq}
-use Rattle.joins.proofs.Compare.{same_next, other-next, one-ends, over-front, next-is}
+use Rattle.model.specs.Ints.{nonzero_yes, nonzero_no, bits_eq}
+use Rattle.joins.proofs.Compare.{same_next, other_next, one_ends, over_front, next_is}
 use borrow.Author.Rules.{rules}
 use Rattle.joins.proofs.same_words.Statement.{statement}
 use Rattle.joins.proofs.same_words.Tie as tie
@@ -16,7 +16,7 @@ same-above-requires c κs = search rules
 returns : tie.Need-returns
 returns c =
     let s = c.before.before.before in
-    record { is = λ gs h ok. c.same_above.ensures.is gs h ok ∙ simp (nonzero-no s.args.over s.ranges.over c.before.if1.true) }
+    record { is = λ gs h ok. c.same_above.ensures.is gs h ok ∙ simp (nonzero_no s.args.over s.ranges.over c.before.if1.true) }
 
 next-word-requires : tie.Need-next-word-requires
 next-word-requires c κs = search rules
@@ -25,9 +25,9 @@ returns-2 : tie.Need-returns-2
 returns-2 c =
     let s = c.before.before.before.before in
     record {
-      is = λ gs h ok. sym (one-ends
+      is = λ gs h ok. sym (one_ends
           (c.before.next_word.ensures.none c.if2.true gs h ok)
-          (over-front s.args.over _ (nonzero-yes s.args.over c.before.before.if1.false))).0;
+          (over_front s.args.over _ (nonzero_yes s.args.over c.before.before.if1.false))).0;
     }
 
 word-of-requires : tie.Need-word-of-requires
@@ -38,9 +38,9 @@ returns-3 c =
     let n = c.before.before.before in
     let s = n.before.before.before in
     record {
-      is = λ gs h ok. sym (other-next
-          (next-is n.next_word.ensures gs h ok c.before.before.if2.false c.before.word_of.ensures refl)
-          (over-front s.args.over _ (nonzero-yes s.args.over n.before.if1.false))
+      is = λ gs h ok. sym (other_next
+          (next_is n.next_word.ensures gs h ok c.before.before.if2.false c.before.word_of.ensures refl)
+          (over_front s.args.over _ (nonzero_yes s.args.over n.before.if1.false))
           (λ e. c.if3.true (ap (of_z w32) e)));
     }
 
@@ -61,9 +61,9 @@ returns-4 c =
     let s = n.before.before.before in
     record {
       is = λ gs h ok. c.same-above2.ensures.is gs h ok ∙ sym (same_next
-          (next-is n.next_word.ensures gs h ok w.before.if2.false w.word_of.ensures c.before.prev-of.ensures)
-          (over-front s.args.over _ (nonzero-yes s.args.over n.before.if1.false))
-          (bits-eq w.word_of.result s.args.over (record { sfits = w.word_of.type-inv }) s.ranges.over c.before.before.if3.false));
+          (next_is n.next_word.ensures gs h ok w.before.if2.false w.word_of.ensures c.before.prev-of.ensures)
+          (over_front s.args.over _ (nonzero_yes s.args.over n.before.if1.false))
+          (bits_eq w.word_of.result s.args.over (record { sfits = w.word_of.type-inv }) s.ranges.over c.before.before.if3.false));
     }
 
 pub same-words-spec : {M : Type 1} → statement M

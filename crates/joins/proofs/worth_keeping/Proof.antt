@@ -2,7 +2,7 @@
 use mathlib.Core.Path.{sym, ap, ◌∙◌}
 use mathlib.Core.Bool.{not}
 use Rattle.model.specs.Ints.{back}
-use Rattle.joins.specs.Walk.{chains-of}
+use Rattle.joins.specs.Walk.{chains_of}
 use borrow.Author.Rules.{rules}
 use Rattle.joins.proofs.worth_keeping.Statement.{statement}
 use Rattle.joins.proofs.worth_keeping.Tie as tie
@@ -17,7 +17,7 @@ same-words-requires : tie.Need-same-words-requires
 same-words-requires c κs =
     let s = c.before.before.before.before.before.before in
     let m = rw c.before.met.given.1 at c.before.before.before.meet.ensures in
-    (chains-of _ _ s.args.gaps.now _ s.requires.0, s.requires.1, s.requires.2, m.low)
+    (chains_of _ _ s.args.gaps.now _ s.requires.0, s.requires.1, s.requires.2, m.low)
 
 enum_told : tie.Need-enum-told
 enum_told c = search rules

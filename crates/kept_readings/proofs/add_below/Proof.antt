@@ -1,6 +1,6 @@
 -- Those before the i-th are added.
 use Rattle.std.proofs.Common.{◌-◌, ◌∙◌, arith}
-use Rattle.kept_readings.specs.Steps.{BelowTo, below_none, below_next, below-short, below_all, room-still}
+use Rattle.kept_readings.specs.Steps.{BelowTo, below_none, below_next, below_short, below_all, room_still}
 use Rattle.kept_readings.proofs.add_below.Statement.{statement}
 use Rattle.kept_readings.proofs.add_below.Tie as tie
 
@@ -19,7 +19,7 @@ add-add-entry : tie.Need-overflow-add-add-entry invariant-loop decreases-loop
 add-add-entry c = record { fits = let z = c.before.before.before.before.before.before.before.before.requires.0.fits in let t = c.loop-test.true in omega arith }
 
 add-entry-requires : tie.Need-add-entry-requires invariant-loop decreases-loop
-add-entry-requires c κs = let t = c.before.before.before.loop-test.true in let r = c.before.before.before.before.before.before.before.before.before.before.before.requires.0.room in (record { hashes = let z = r.hashes in omega arith; nexts = let z = r.nexts in omega arith; sums = let z = r.sums in omega arith }, c.before.before.before.before.before.before.before.before.before.before.before.requires.0.lens _ t, room-still c.before.before.before.before.loop.invariant.sized c.before.before.before.before.before.before.before.before.before.before.before.requires.1, c.before.before.before.before.loop.invariant.fits)
+add-entry-requires c κs = let t = c.before.before.before.loop-test.true in let r = c.before.before.before.before.before.before.before.before.before.before.before.requires.0.room in (record { hashes = let z = r.hashes in omega arith; nexts = let z = r.nexts in omega arith; sums = let z = r.sums in omega arith }, c.before.before.before.before.before.before.before.before.before.before.before.requires.0.lens _ t, room_still c.before.before.before.before.loop.invariant.sized c.before.before.before.before.before.before.before.before.before.before.before.requires.1, c.before.before.before.before.loop.invariant.fits)
 
 same_length : tie.Need-same-length invariant-loop decreases-loop
 same_length c = c.before.before.before.before.before.before.before.add-entry.auto.1.1.1.1.1.1.1.1.0 ∙ c.before.before.before.before.before.before.before.before.before.before.before.before.loop.invariant.sized.hashes
@@ -31,7 +31,7 @@ same-length-3 : tie.Need-same-length-3 invariant-loop decreases-loop
 same-length-3 c = c.before.before.before.before.before.before.before.add-entry.auto.1.1.1.1.1.1.1.1.1.1.0 ∙ c.before.before.before.before.before.before.before.before.before.before.before.before.loop.invariant.sized.sums
 
 returns : tie.Need-returns invariant-loop decreases-loop
-returns c = below-short _ _ _ _ _ _ _ _ _ _ _ _ _ _ c.before.before.before.before.before.before.before.before.before.before.before.before.loop.invariant c.before.before.before.before.before.before.before.before.before.before.before.loop-test.true c.before.before.before.before.before.before.before.add-entry.ensures c.if1.true
+returns c = below_short _ _ _ _ _ _ _ _ _ _ _ _ _ _ c.before.before.before.before.before.before.before.before.before.before.before.before.loop.invariant c.before.before.before.before.before.before.before.before.before.before.before.loop-test.true c.before.before.before.before.before.before.before.add-entry.ensures c.if1.true
 
 add-i : tie.Need-overflow-add-i invariant-loop decreases-loop
 add-i c = record { fits = let z = c.before.before.before.before.before.before.before.before.before.before.before.before.before.before.before.before.before.before.before.requires.0.fits in let t = c.before.before.before.before.before.before.before.before.before.before.before.loop-test.true in omega arith }

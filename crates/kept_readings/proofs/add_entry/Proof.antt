@@ -1,8 +1,8 @@
 -- The steps in turn.
 use Rattle.std.proofs.Common.{ap, ◌∙◌, arith, rules}
 use Rattle.entries.specs.declared.Entry.{Entry}
-use Rattle.kept_readings.specs.Heads.{keptBy}
-use Rattle.kept_readings.specs.Laws.{added-as}
+use Rattle.kept_readings.specs.Heads.{kept_by}
+use Rattle.kept_readings.specs.Laws.{added_as}
 use Rattle.kept_readings.proofs.add_entry.Statement.{statement}
 use Rattle.kept_readings.proofs.add_entry.Tie as tie
 
@@ -25,7 +25,7 @@ same-length-3 : tie.Need-same-length-3
 same-length-3 c = search rules
 
 returns : tie.Need-returns
-returns c = added-as c.before.before.before.before.before.before.before.before.before.before.before.before.before.before.before.before.before.before.args.bound _ (c.before.before.before.before.before.before.before.before.before.before.kept_by.ensures ∙ ap (keptBy c.before.before.before.before.before.before.before.before.before.before.before.before.before.before.before.before.before.before.args.c c.before.before.before.before.before.before.before.before.before.before.before.before.before.before.before.before.before.before.args.counts c.before.before.before.before.before.before.before.before.before.before.before.before.before.before.before.before.before.before.args.above c.before.before.before.before.before.before.before.before.before.before.before.before.before.before.before.before.before.before.args.e) c.before.before.before.before.before.before.before.before.before.before.before.entry_at.ensures) c.before.before.before.before.before.before.add-within.ensures
+returns c = added_as c.before.before.before.before.before.before.before.before.before.before.before.before.before.before.before.before.before.before.args.bound _ (c.before.before.before.before.before.before.before.before.before.before.kept_by.ensures ∙ ap (kept_by c.before.before.before.before.before.before.before.before.before.before.before.before.before.before.before.before.before.before.args.c c.before.before.before.before.before.before.before.before.before.before.before.before.before.before.before.before.before.before.args.counts c.before.before.before.before.before.before.before.before.before.before.before.before.before.before.before.before.before.before.args.above c.before.before.before.before.before.before.before.before.before.before.before.before.before.before.before.before.before.before.args.e) c.before.before.before.before.before.before.before.before.before.before.before.entry_at.ensures) c.before.before.before.before.before.before.add-within.ensures
 
 pub add-entry-spec : {M : Type 1} → statement M
 add-entry-spec =

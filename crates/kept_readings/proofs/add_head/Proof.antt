@@ -1,6 +1,6 @@
 -- The steps in turn.
 use Rattle.std.proofs.Common.{sym, ◌∙◌, arith, rules}
-use Rattle.kept_readings.specs.Steps.{head-asks, head-nobody, head-token}
+use Rattle.kept_readings.specs.Steps.{head_asks, head_nobody, head_token}
 use Rattle.kept_readings.proofs.add_head.Statement.{statement}
 use Rattle.kept_readings.proofs.add_head.Tie as tie
 
@@ -29,10 +29,10 @@ count-of-requires : tie.Need-count-of-requires
 count-of-requires c κs = let z = c.before.before.before.before.before.before.before.before.before.before.before.before.before.before.before.before.before.before.before.requires.3.low in let e = c.before.before.before.before.before.before.before.link-at.ensures in let k = c.before.before.before.before.before.before.first-join.ensures.low in let w = c.before.before.before.before.before.before.before.before.before.before.before.before.before.before.before.before.before.before.before.requires.2 in omega arith
 
 add-below-requires : tie.Need-add-below-requires
-add-below-requires c κs = (head-asks c.before.before.before.before.before.before.before.before.before.before.before.link-at.ensures c.before.before.before.before.before.before.before.before.before.before.first-join.ensures c.before.before.before.before.before.before.before.before.before.hash-above.ensures c.before.before.before.before.before.before.before.before.before.before.before.before.before.before.before.before.before.before.before.before.before.before.before.requires.3 _ _ c.before.before.before.before.first_of.ensures c.before.before.before.count_of.ensures, c.before.before.before.before.before.before.before.before.before.before.before.before.before.before.before.before.before.before.before.before.before.before.before.requires.4, c.before.before.before.before.before.before.before.before.before.before.before.before.before.before.before.before.before.before.before.before.before.before.before.requires.5)
+add-below-requires c κs = (head_asks c.before.before.before.before.before.before.before.before.before.before.before.link-at.ensures c.before.before.before.before.before.before.before.before.before.before.first-join.ensures c.before.before.before.before.before.before.before.before.before.hash-above.ensures c.before.before.before.before.before.before.before.before.before.before.before.before.before.before.before.before.before.before.before.before.before.before.before.requires.3 _ _ c.before.before.before.before.first_of.ensures c.before.before.before.count_of.ensures, c.before.before.before.before.before.before.before.before.before.before.before.before.before.before.before.before.before.before.before.before.before.before.before.requires.4, c.before.before.before.before.before.before.before.before.before.before.before.before.before.before.before.before.before.before.before.before.before.before.before.requires.5)
 
 returns : tie.Need-returns
-returns c = head-nobody c.before.before.before.before.before.link-at.ensures c.before.before.before.before.first-join.ensures c.before.before.before.hash-above.ensures (sym c.before.before.candidate-at.ensures ∙ c.enum_told.given.1) c.before.before.before.before.before.before.before.before.before.before.before.before.before.before.before.before.before.requires.5
+returns c = head_nobody c.before.before.before.before.before.link-at.ensures c.before.before.before.before.first-join.ensures c.before.before.before.hash-above.ensures (sym c.before.before.candidate-at.ensures ∙ c.enum_told.given.1) c.before.before.before.before.before.before.before.before.before.before.before.before.before.before.before.before.before.requires.5
 
 same_length : tie.Need-same-length
 same_length c = search rules
@@ -44,7 +44,7 @@ same-length-3 : tie.Need-same-length-3
 same-length-3 c = search rules
 
 returns-2 : tie.Need-returns-2
-returns-2 c = head-token c.before.before.before.before.before.before.before.before.before.before.before.before.before.before.before.before.before.before.link-at.ensures c.before.before.before.before.before.before.before.before.before.before.before.before.before.before.before.before.before.first-join.ensures c.before.before.before.before.before.before.before.before.before.before.before.before.before.before.before.before.hash-above.ensures (sym c.before.before.before.before.before.before.before.before.before.before.before.before.before.before.before.candidate-at.ensures ∙ c.before.before.before.before.before.before.before.before.before.before.before.before.before.c.given.1) _ _ c.before.before.before.before.before.before.before.before.before.before.before.first_of.ensures c.before.before.before.before.before.before.before.before.before.before.count_of.ensures c.before.before.before.before.before.before.add-below.ensures
+returns-2 c = head_token c.before.before.before.before.before.before.before.before.before.before.before.before.before.before.before.before.before.before.link-at.ensures c.before.before.before.before.before.before.before.before.before.before.before.before.before.before.before.before.before.first-join.ensures c.before.before.before.before.before.before.before.before.before.before.before.before.before.before.before.before.hash-above.ensures (sym c.before.before.before.before.before.before.before.before.before.before.before.before.before.before.before.candidate-at.ensures ∙ c.before.before.before.before.before.before.before.before.before.before.before.before.before.c.given.1) _ _ c.before.before.before.before.before.before.before.before.before.before.before.first_of.ensures c.before.before.before.before.before.before.before.before.before.before.count_of.ensures c.before.before.before.before.before.before.add-below.ensures
 
 pub add-head-spec : {M : Type 1} → statement M
 add-head-spec =

@@ -1,6 +1,6 @@
 -- Its words are there, or they are new.
 use Rattle.std.proofs.Common.{◌<◌, arith, rules}
-use Rattle.kept_readings.specs.Laws.{added-there, added_full, added_new}
+use Rattle.kept_readings.specs.Laws.{added_there, added_full, added_new}
 use Rattle.kept_readings.proofs.add_kept.Statement.{statement}
 use Rattle.kept_readings.proofs.add_kept.Tie as tie
 
@@ -20,7 +20,7 @@ same-length-3 : tie.Need-same-length-3
 same-length-3 c = search rules
 
 returns : tie.Need-returns
-returns c = added-there c.before.before.before.before.before.before.before.before.before.before.before.find-kept.ensures c.before.before.before.before.before.before.before.before.before.before.before.before.before.before.before.before.before.before.requires.1 c.before.before.before.before.before.before.before.before.before.before.if1.true c.before.before.before.before.before.before.put-sooner.ensures
+returns c = added_there c.before.before.before.before.before.before.before.before.before.before.before.find-kept.ensures c.before.before.before.before.before.before.before.before.before.before.before.before.before.before.before.before.before.before.requires.1 c.before.before.before.before.before.before.before.before.before.before.if1.true c.before.before.before.before.before.before.put-sooner.ensures
 
 add-result : tie.Need-overflow-add-result
 add-result c = search rules

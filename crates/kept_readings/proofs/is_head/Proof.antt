@@ -1,7 +1,7 @@
 -- Where it can rank, by whether it has a join.
 use Rattle.std.proofs.Common.{sym, ◌∙◌, arith}
 use borrow.Author.Tests.{not-true, not-false}
-use Rattle.kept_readings.specs.Steps.{cannot-rank, is-head}
+use Rattle.kept_readings.specs.Steps.{cannot_rank, is-head}
 use Rattle.kept_readings.proofs.is_head.Statement.{statement}
 use Rattle.kept_readings.proofs.is_head.Tie as tie
 
@@ -9,7 +9,7 @@ may-rank-requires : tie.Need-may-rank-requires
 may-rank-requires c κs = (c.before.before.before.before.requires.0, c.before.before.before.before.requires.2.tokens, c.before.before.before.before.requires.2.sums, c.before.before.before.before.requires.2.finals)
 
 returns : tie.Need-returns
-returns c = cannot-rank (sym c.before.may-rank.ensures ∙ not-true _ c.if1.true)
+returns c = cannot_rank (sym c.before.may-rank.ensures ∙ not-true _ c.if1.true)
 
 link-at-requires : tie.Need-link-at-requires
 link-at-requires c κs = (c.before.before.before.before.before.before.requires.0, c.before.before.before.before.before.before.requires.2.tokens)

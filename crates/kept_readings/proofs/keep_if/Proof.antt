@@ -1,6 +1,6 @@
 -- Put or left.
 use Rattle.std.proofs.Common.{refl, rules}
-use Rattle.kept_readings.specs.Heads.{notKept, isKept}
+use Rattle.kept_readings.specs.Heads.{not_kept, is_kept}
 use Rattle.kept_readings.proofs.keep_if.Statement.{statement}
 use Rattle.kept_readings.proofs.keep_if.Tie as tie
 
@@ -17,10 +17,10 @@ same_length : tie.Need-same-length
 same_length c = search rules
 
 returns : tie.Need-returns
-returns c = isKept c.if1.true refl refl
+returns c = is_kept c.if1.true refl refl
 
 returns-2 : tie.Need-returns-2
-returns-2 c = notKept c.if1.false refl refl
+returns-2 c = not_kept c.if1.false refl refl
 
 pub keep-if-spec : {M : Type 1} → statement M
 keep-if-spec =

@@ -1,6 +1,6 @@
 -- Field by field.
 use Rattle.std.proofs.Common.{arith, length-set, rules}
-use Rattle.kept_readings.specs.Laws.{kept_put}
+use Rattle.kept_readings.specs.Laws.{kept_put_lem}
 use Rattle.kept_readings.proofs.put_kept.Statement.{statement}
 use Rattle.kept_readings.proofs.put_kept.Tie as tie
 
@@ -86,7 +86,7 @@ same-length-3 : tie.Need-same-length-3
 same-length-3 c = search rules
 
 returns : tie.Need-returns
-returns c = kept_put _ _ _ _ _ c.requires
+returns c = kept_put_lem _ _ _ _ _ c.requires
 
 pub put-kept-spec : {M : Type 1} → statement M
 put-kept-spec =

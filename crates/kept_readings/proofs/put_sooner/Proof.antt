@@ -1,7 +1,7 @@
 -- Put or left.
 use Rattle.std.proofs.Common.{sym, ap, ◌∙◌, rules}
-use Rattle.kept_readings.specs.Kept.{soonerKept}
-use Rattle.kept_readings.specs.Laws.{put-sooner, left_there}
+use Rattle.kept_readings.specs.Kept.{sooner_kept}
+use Rattle.kept_readings.specs.Laws.{put_sooner, left_there}
 use Rattle.kept_readings.proofs.put_sooner.Statement.{statement}
 use Rattle.kept_readings.proofs.put_sooner.Tie as tie
 
@@ -24,7 +24,7 @@ same-length-3 : tie.Need-same-length-3
 same-length-3 c = search rules
 
 returns : tie.Need-returns
-returns c = put-sooner c.before.before.before.before.before.before.before.before.before.before.before.before.before.before.before.before.before.before.before.args.k _ (ap (soonerKept c.before.before.before.before.before.before.before.before.before.before.before.before.before.before.before.before.before.before.before.args.k) (sym c.before.before.before.before.before.before.before.before.before.before.before.before.kept_at.ensures) ∙ sym c.before.before.before.before.before.before.before.before.before.before.before.kept-sooner.ensures ∙ c.before.before.before.before.before.before.before.before.before.before.if1.true) c.before.before.before.before.before.before.put-kept.ensures
+returns c = put_sooner c.before.before.before.before.before.before.before.before.before.before.before.before.before.before.before.before.before.before.before.args.k _ (ap (sooner_kept c.before.before.before.before.before.before.before.before.before.before.before.before.before.before.before.before.before.before.before.args.k) (sym c.before.before.before.before.before.before.before.before.before.before.before.before.kept_at.ensures) ∙ sym c.before.before.before.before.before.before.before.before.before.before.before.kept-sooner.ensures ∙ c.before.before.before.before.before.before.before.before.before.before.if1.true) c.before.before.before.before.before.before.put-kept.ensures
 
 same-length-4 : tie.Need-same-length-4
 same-length-4 c = search rules
@@ -36,7 +36,7 @@ same-length-6 : tie.Need-same-length-6
 same-length-6 c = search rules
 
 returns-2 : tie.Need-returns-2
-returns-2 c = left_there c.before.before.before.before.before.before.before.before.before.args.k (ap (soonerKept c.before.before.before.before.before.before.before.before.before.args.k) (sym c.before.before.kept_at.ensures) ∙ sym c.before.kept-sooner.ensures ∙ c.if1.false)
+returns-2 c = left_there c.before.before.before.before.before.before.before.before.before.args.k (ap (sooner_kept c.before.before.before.before.before.before.before.before.before.args.k) (sym c.before.before.kept_at.ensures) ∙ sym c.before.kept-sooner.ensures ∙ c.if1.false)
 
 pub put-sooner-spec : {M : Type 1} → statement M
 put-sooner-spec =

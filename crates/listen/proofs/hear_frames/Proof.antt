@@ -3,10 +3,10 @@ use mathlib.Core.Path.{refl, ◌∙◌}
 use Prim.Native.Nat.{◌-◌, ◌≤◌}
 use lib.ListN.{length}
 use Rattle.stores.specs.Lent.{LeftToProgram}
-use Rattle.stores.specs.Rep.{lent, Lens, lens-self, lens-then}
-use Rattle.nonemitting.specs.Expand.{graphTables}
-use Rattle.decoder.specs.Held.{held-asked}
-use Rattle.listen.specs.Held.{Hearing, frame-asked, frame-hears}
+use Rattle.stores.specs.Rep.{lent, Lens, lens_self, lens_then}
+use Rattle.nonemitting.specs.Expand.{graph_tables}
+use Rattle.decoder.specs.Held.{held_asked}
+use Rattle.listen.specs.Held.{Hearing, frame_asked, frame_hears}
 use borrow.Author.Rules.{rules}
 use native.Mathlib.Omega.{arith}
 use Rattle.listen.proofs.hear_frames.Statement.{statement}
@@ -14,14 +14,14 @@ use Rattle.listen.proofs.hear_frames.Tie as tie
 
 abbrev invariant-loop : tie.invariant-loop
 invariant-loop tokens₀ sums₀ records₀ labels₀ gaps₀ queue₀ scratch₀ eps offsets ilabels olabels weights nextstates finals tid2pdf tid2phone d₀ i₀ tokens sums records labels gaps queue scratch d i =
-    (i ≤ 8) × Hearing (graphTables offsets ilabels olabels weights nextstates tid2pdf tid2phone) (lent tokens sums records labels gaps) finals eps (length queue) (length scratch) d × Lens (lent tokens₀ sums₀ records₀ labels₀ gaps₀) (lent tokens sums records labels gaps) × LeftToProgram queue₀ queue × LeftToProgram scratch₀ scratch
+    (i ≤ 8) × Hearing (graph_tables offsets ilabels olabels weights nextstates tid2pdf tid2phone) (lent tokens sums records labels gaps) finals eps (length queue) (length scratch) d × Lens (lent tokens₀ sums₀ records₀ labels₀ gaps₀) (lent tokens sums records labels gaps) × LeftToProgram queue₀ queue × LeftToProgram scratch₀ scratch
 
 abbrev decreases-loop : tie.decreases-loop
 decreases-loop tokens₀ sums₀ records₀ labels₀ gaps₀ queue₀ scratch₀ eps offsets ilabels olabels weights nextstates finals tid2pdf tid2phone d₀ i₀ tokens sums records labels gaps queue scratch d i =
     8 - i
 
 loop-holds : tie.Need-loop-init invariant-loop decreases-loop
-loop-holds c = (omega arith, c.before.before.before.before.before.before.before.before.before.before.before.requires, lens-self _, record { same_length = refl }, record { same_length = refl })
+loop-holds c = (omega arith, c.before.before.before.before.before.before.before.before.before.before.before.requires, lens_self _, record { same_length = refl }, record { same_length = refl })
 
 frame-at-requires : tie.Need-frame-at-requires invariant-loop decreases-loop
 frame-at-requires c κs = search rules
@@ -30,7 +30,7 @@ slice-aggregate-frame : tie.Need-slice-aggregate-frame invariant-loop decreases-
 slice-aggregate-frame c = search rules
 
 frame-requires : tie.Need-frame-requires invariant-loop decreases-loop
-frame-requires c κs = frame-asked c.before.before.before.before.before.before.before.before.before.before.loop.invariant.1
+frame-requires c κs = frame_asked c.before.before.before.before.before.before.before.before.before.before.loop.invariant.1
 
 enum-known-next : tie.Need-enum-known-next invariant-loop decreases-loop
 enum-known-next c = search rules
@@ -75,10 +75,10 @@ loop-again : tie.Need-loop-preserved invariant-loop decreases-loop
 loop-again c =
     let F = c.before.before.before.before.before.before.before.before.before.before.before.before.before.before.before.before.frame.ensures in
     let I = c.before.before.before.before.before.before.before.before.before.before.before.before.before.before.before.before.before.before.before.before.before.before.before.before.before.before.before.loop.invariant in
-    (omega (arith, c.before.before.before.before.before.before.before.before.before.before.before.before.before.before.before.before.before.before.before.before.before.before.before.before.before.before.loop-test.true), frame-hears F c.before.next.given.1 I.1, lens-then I.2 F.lent.stores, record { same_length = F.lent.queue.same_length ∙ I.3.same_length }, record { same_length = F.scratch.same_length ∙ I.4.same_length })
+    (omega (arith, c.before.before.before.before.before.before.before.before.before.before.before.before.before.before.before.before.before.before.before.before.before.before.before.before.before.before.loop-test.true), frame_hears F c.before.next.given.1 I.1, lens_then I.2 F.lent.stores, record { same_length = F.lent.queue.same_length ∙ I.3.same_length }, record { same_length = F.scratch.same_length ∙ I.4.same_length })
 
 write-best-requires : tie.Need-write-best-requires invariant-loop decreases-loop
-write-best-requires c κs = (held-asked c.before.before.before.before.before.loop.invariant.1.held).best
+write-best-requires c κs = (held_asked c.before.before.before.before.before.loop.invariant.1.held).best
 
 same-length-8 : tie.Need-same-length-8 invariant-loop decreases-loop
 same-length-8 c = c.before.before.before.before.before.before.loop.invariant.2.tokens

@@ -1,5 +1,5 @@
 -- `listen::listen` is safe: the frames are given to a decoder as the fit leaves it.
-use Rattle.listen.specs.Held.{fit-hears}
+use Rattle.listen.specs.Held.{fit_hears}
 use borrow.Author.Rules.{rules}
 use Rattle.listen.proofs.listen.Statement.{statement}
 use Rattle.listen.proofs.listen.Tie as tie
@@ -113,7 +113,7 @@ slice-aggregate-hear-frames-8 : tie.Need-slice-aggregate-hear-frames-8
 slice-aggregate-hear-frames-8 c = search rules
 
 hear-frames-requires : tie.Need-hear-frames-requires
-hear-frames-requires c κs = fit-hears c.before.before.before.before.before.before.before.before.before.before.before.before.before.before.before.before.before.before.fit.ensures c.before.before.before.before.before.before.before.before.before.d.given.1 c.before.before.before.before.before.before.before.before.before.before.before.before.before.before.before.before.before.before.fit.auto.1.1.1.1.1.0
+hear-frames-requires c κs = fit_hears c.before.before.before.before.before.before.before.before.before.before.before.before.before.before.before.before.before.before.fit.ensures c.before.before.before.before.before.before.before.before.before.d.given.1 c.before.before.before.before.before.before.before.before.before.before.before.before.before.before.before.before.before.before.fit.auto.1.1.1.1.1.0
 
 returns : tie.Need-returns
 returns c = search rules

@@ -1,7 +1,7 @@
 -- `listen::write_refusal` is safe: the line stands in the slice.
 use mathlib.Core.Path.{sym}
 use lib.Seq.{length-take-le}
-use Rattle.refusal_lines.specs.Laws.{written-fits}
+use Rattle.refusal_lines.specs.Laws.{written_fits}
 use borrow.Author.Rules.{rules}
 use Rattle.listen.proofs.write_refusal.Statement.{statement}
 use Rattle.listen.proofs.write_refusal.Tie as tie
@@ -22,7 +22,7 @@ returns : tie.Need-returns
 returns c = search rules
 
 array-share-prefix-line : tie.Need-array-share-prefix-line
-array-share-prefix-line c = written-fits _ _ _ _ (rw c.before.n.given.1 at c.before.before.before.before.write-line.ensures)
+array-share-prefix-line c = written_fits _ _ _ _ (rw c.before.n.given.1 at c.before.before.before.before.write-line.ensures)
 
 slice-aggregate-write-text : tie.Need-slice-aggregate-write-text
 slice-aggregate-write-text c = sym (length-take-le _ _ (array-share-prefix-line c.before))

@@ -1,7 +1,7 @@
 -- Keys, sorted; of each word list one is dropped, and both are closed up.
 use mathlib.Core.Path.{◌∙◌}
 use native.Mathlib.Omega.{arith}
-use Rattle.listing.specs.Settling.{drops-ask, settled}
+use Rattle.listing.specs.Settling.{drops_ask, settled}
 use borrow.Author.Rules.{rules}
 use Rattle.listing.proofs.settle.Statement.{statement}
 use Rattle.listing.proofs.settle.Tie as tie
@@ -13,7 +13,7 @@ sort-requires : tie.Need-sort-requires
 sort-requires c κs = let u = c.before.before.before.before.before.before.before.before.before.before.before.before.before.before.before.before.before.before.before.before.before.before.before.before.before.requires.0.keys-long in let v = c.before.before.before.before.before.before.before.before.before.before.before.before.before.before.before.before.before.before.before.before.before.before.before.before.before.requires.0.places-long in let x = c.before.before.before.before.before.before.fill-keys.auto.1.1.1.1.1.1.1.1.1.0 in let y = c.before.before.before.before.before.before.fill-keys.auto.1.1.1.1.1.1.1.1.1.1.0 in record { keys-long = omega arith; items-long = omega arith }
 
 drop-twins-requires : tie.Need-drop-twins-requires
-drop-twins-requires c κs = let u = c.before.before.before.before.before.before.before.before.before.before.before.before.before.before.before.before.before.before.before.before.before.before.before.before.before.before.before.before.before.before.before.before.before.before.before.before.requires.0.keys-long in let v = c.before.before.before.before.before.before.before.before.before.before.before.before.before.before.before.before.before.before.before.before.before.before.before.before.before.before.before.before.before.before.before.before.before.before.before.before.requires.0.places-long in let x = c.before.before.before.before.before.before.before.before.before.before.before.before.before.before.before.before.before.fill-keys.auto.1.1.1.1.1.1.1.1.1.0 in let y = c.before.before.before.before.before.before.before.before.before.before.before.before.before.before.before.before.before.fill-keys.auto.1.1.1.1.1.1.1.1.1.1.0 in let s = c.before.before.before.before.before.before.before.before.before.before.sort.auto.0 in let t = c.before.before.before.before.before.before.before.before.before.before.sort.auto.1.0 in drops-ask c.before.before.before.before.before.before.before.before.before.before.before.before.before.before.before.before.before.before.before.before.before.before.before.before.before.before.before.before.before.before.before.before.before.before.before.before.requires.0 c.before.before.before.before.before.before.before.before.before.before.before.before.before.before.before.before.before.fill-keys.ensures (omega arith) (omega arith) (record { keys-long = omega arith; items-long = omega arith }) c.before.before.before.before.before.before.before.before.before.before.sort.ensures
+drop-twins-requires c κs = let u = c.before.before.before.before.before.before.before.before.before.before.before.before.before.before.before.before.before.before.before.before.before.before.before.before.before.before.before.before.before.before.before.before.before.before.before.before.requires.0.keys-long in let v = c.before.before.before.before.before.before.before.before.before.before.before.before.before.before.before.before.before.before.before.before.before.before.before.before.before.before.before.before.before.before.before.before.before.before.before.before.requires.0.places-long in let x = c.before.before.before.before.before.before.before.before.before.before.before.before.before.before.before.before.before.fill-keys.auto.1.1.1.1.1.1.1.1.1.0 in let y = c.before.before.before.before.before.before.before.before.before.before.before.before.before.before.before.before.before.fill-keys.auto.1.1.1.1.1.1.1.1.1.1.0 in let s = c.before.before.before.before.before.before.before.before.before.before.sort.auto.0 in let t = c.before.before.before.before.before.before.before.before.before.before.sort.auto.1.0 in drops_ask c.before.before.before.before.before.before.before.before.before.before.before.before.before.before.before.before.before.before.before.before.before.before.before.before.before.before.before.before.before.before.before.before.before.before.before.before.requires.0 c.before.before.before.before.before.before.before.before.before.before.before.before.before.before.before.before.before.fill-keys.ensures (omega arith) (omega arith) (record { keys-long = omega arith; items-long = omega arith }) c.before.before.before.before.before.before.before.before.before.before.sort.ensures
 
 drop-gone-requires : tie.Need-drop-gone-requires
 drop-gone-requires c κs = let u = c.before.before.before.before.before.before.before.before.before.before.before.before.before.before.before.before.before.before.before.before.before.before.before.before.before.before.before.before.before.before.before.before.before.before.before.before.before.before.before.before.before.before.before.before.before.requires.0.gone_long in let x = c.before.before.before.before.before.before.before.before.drop-twins.auto.1.1.1.1.1.1.1.1.1.1.0 in (c.before.before.before.before.before.before.before.before.before.before.before.before.before.before.before.before.before.before.before.before.before.before.before.before.before.before.before.before.before.before.before.before.before.before.before.before.before.before.before.before.before.before.before.before.before.requires.0.states.long, omega arith)

@@ -2,10 +2,10 @@
 use mathlib.Core.Path.{◌≡◌, refl, ◌∙◌}
 use native.Mathlib.Omega.{arith}
 use lib.ListN.{length}
-use Rattle.stores.specs.Rep.{lent, Lens, lens-self, lens-then}
-use Rattle.nonemitting.specs.Expand.{graphTables}
-use Rattle.nonemitting.specs.Measure.{leftIn}
-use Rattle.nonemitting.specs.Drain.{DrainGiven, SoFar, far-start, state-given, far-next, far-stop, far-less, far-end}
+use Rattle.stores.specs.Rep.{lent, Lens, lens_self, lens_then}
+use Rattle.nonemitting.specs.Expand.{graph_tables}
+use Rattle.nonemitting.specs.Measure.{left_in}
+use Rattle.nonemitting.specs.Drain.{DrainGiven, SoFar, far_start, state_given, far_next, far_stop, far_less, far_end}
 use borrow.Author.Rules.{rules}
 use Rattle.nonemitting.proofs.drain.Statement.{statement}
 use Rattle.nonemitting.proofs.drain.Tie as tie
@@ -13,14 +13,14 @@ use Rattle.nonemitting.proofs.drain.Tie as tie
 abbrev invariant-loop : tie.invariant-loop
 invariant-loop tokens₀ sums₀ records₀ labels₀ gaps₀ queue₀ eps offsets ilabels olabels weights nextstates tid2pdf tid2phone setting w₀ tokens sums records labels gaps queue w =
     Lens (lent tokens₀ sums₀ records₀ labels₀ gaps₀) (lent tokens sums records labels gaps) × (length queue ≡ length queue₀) ×
-    ((G : DrainGiven setting (lent tokens₀ sums₀ records₀ labels₀ gaps₀) queue₀ eps (graphTables offsets ilabels olabels weights nextstates tid2pdf tid2phone) w₀) → SoFar G (lent tokens sums records labels gaps) queue w)
+    ((G : DrainGiven setting (lent tokens₀ sums₀ records₀ labels₀ gaps₀) queue₀ eps (graph_tables offsets ilabels olabels weights nextstates tid2pdf tid2phone) w₀) → SoFar G (lent tokens sums records labels gaps) queue w)
 
 abbrev decreases-loop : tie.decreases-loop
 decreases-loop tokens₀ sums₀ records₀ labels₀ gaps₀ queue₀ eps offsets ilabels olabels weights nextstates tid2pdf tid2phone setting w₀ tokens sums records labels gaps queue w =
-    leftIn tokens sums setting.side setting.states w.queued
+    left_in tokens sums setting.side setting.states w.queued
 
 loop-holds : tie.Need-loop-init invariant-loop decreases-loop
-loop-holds c = (lens-self _, refl, λ G. far-start G)
+loop-holds c = (lens_self _, refl, λ G. far_start G)
 
 sub-s : tie.Need-overflow-sub-s invariant-loop decreases-loop
 sub-s c = search rules
@@ -35,7 +35,7 @@ sub-t24 : tie.Need-overflow-sub-t24 invariant-loop decreases-loop
 sub-t24 c = search rules
 
 expand-requires : tie.Need-expand-requires invariant-loop decreases-loop
-expand-requires c κs = state-given c.before.before.before.before.before.before.before.before.before.before.before.before.before.before.before.before.before.before.before.requires (c.before.before.before.before.before.before.before.before.before.loop.invariant.2 c.before.before.before.before.before.before.before.before.before.before.before.before.before.before.before.before.before.before.before.requires) c.before.before.before.before.before.before.before.if1.true c.before.before.before.before.before.before.before.before.before.loop.invariant.1 _ refl
+expand-requires c κs = state_given c.before.before.before.before.before.before.before.before.before.before.before.before.before.before.before.before.before.before.before.requires (c.before.before.before.before.before.before.before.before.before.loop.invariant.2 c.before.before.before.before.before.before.before.before.before.before.before.before.before.before.before.before.before.before.before.requires) c.before.before.before.before.before.before.before.if1.true c.before.before.before.before.before.before.before.before.before.loop.invariant.1 _ refl
 
 enum-known-n : tie.Need-enum-known-n invariant-loop decreases-loop
 enum-known-n c = search rules
@@ -59,19 +59,19 @@ same-length-6 : tie.Need-same-length-6 invariant-loop decreases-loop
 same-length-6 c = c.before.before.before.before.before.before.before.before.before.before.before.before.before.before.expand.auto.1.1.1.1.1.0 ∙ c.before.before.before.before.before.before.before.before.before.before.before.before.before.before.before.before.before.before.before.before.before.before.before.before.loop.invariant.1
 
 returns : tie.Need-returns invariant-loop decreases-loop
-returns c = λ G. far-stop G (c.before.before.before.before.before.before.before.before.before.before.before.before.before.before.before.before.before.before.before.before.before.before.before.before.loop.invariant.2 G) c.before.before.before.before.before.before.before.before.before.before.before.before.before.before.before.before.before.before.before.before.before.before.if1.true c.before.before.before.before.before.before.before.before.before.before.before.before.before.before.before.before.before.before.before.before.before.before.before.before.loop.invariant.1 _ refl c.before.before.before.before.before.before.before.before.before.before.before.before.before.before.expand.ensures _ c.before.n.given.1
+returns c = λ G. far_stop G (c.before.before.before.before.before.before.before.before.before.before.before.before.before.before.before.before.before.before.before.before.before.before.before.before.loop.invariant.2 G) c.before.before.before.before.before.before.before.before.before.before.before.before.before.before.before.before.before.before.before.before.before.before.if1.true c.before.before.before.before.before.before.before.before.before.before.before.before.before.before.before.before.before.before.before.before.before.before.before.before.loop.invariant.1 _ refl c.before.before.before.before.before.before.before.before.before.before.before.before.before.before.expand.ensures _ c.before.n.given.1
 
 enum-known-next : tie.Need-enum-known-next invariant-loop decreases-loop
 enum-known-next c = search rules
 
 loop-less : tie.Need-loop-smaller invariant-loop decreases-loop
-loop-less c = far-less c.before.before.before.before.before.before.before.before.before.before.before.before.before.before.before.before.before.before.before.before.before.before.before.before.before.before.before.before.before.before.before.before.before.before.requires (c.before.before.before.before.before.before.before.before.before.before.before.before.before.before.before.before.before.before.before.before.before.before.before.before.loop.invariant.2 c.before.before.before.before.before.before.before.before.before.before.before.before.before.before.before.before.before.before.before.before.before.before.before.before.before.before.before.before.before.before.before.before.before.before.requires) c.before.before.before.before.before.before.before.before.before.before.before.before.before.before.before.before.before.before.before.before.before.before.if1.true c.before.before.before.before.before.before.before.before.before.before.before.before.before.before.before.before.before.before.before.before.before.before.before.before.loop.invariant.1 _ refl c.before.before.before.before.before.before.before.before.before.before.before.before.before.before.expand.ensures _ c.before.next.given.1
+loop-less c = far_less c.before.before.before.before.before.before.before.before.before.before.before.before.before.before.before.before.before.before.before.before.before.before.before.before.before.before.before.before.before.before.before.before.before.before.requires (c.before.before.before.before.before.before.before.before.before.before.before.before.before.before.before.before.before.before.before.before.before.before.before.before.loop.invariant.2 c.before.before.before.before.before.before.before.before.before.before.before.before.before.before.before.before.before.before.before.before.before.before.before.before.before.before.before.before.before.before.before.before.before.before.requires) c.before.before.before.before.before.before.before.before.before.before.before.before.before.before.before.before.before.before.before.before.before.before.if1.true c.before.before.before.before.before.before.before.before.before.before.before.before.before.before.before.before.before.before.before.before.before.before.before.before.loop.invariant.1 _ refl c.before.before.before.before.before.before.before.before.before.before.before.before.before.before.expand.ensures _ c.before.next.given.1
 
 loop-again : tie.Need-loop-preserved invariant-loop decreases-loop
 loop-again c = (
-  lens-then c.before.before.before.before.before.before.before.before.before.before.before.before.before.before.before.before.before.before.before.before.before.before.before.before.loop.invariant.0 (record { tokens = c.before.before.before.before.before.before.before.before.before.before.before.before.before.before.expand.auto.0; sums = c.before.before.before.before.before.before.before.before.before.before.before.before.before.before.expand.auto.1.0; records = c.before.before.before.before.before.before.before.before.before.before.before.before.before.before.expand.auto.1.1.0; labels = c.before.before.before.before.before.before.before.before.before.before.before.before.before.before.expand.auto.1.1.1.0; gaps = c.before.before.before.before.before.before.before.before.before.before.before.before.before.before.expand.auto.1.1.1.1.0 }),
+  lens_then c.before.before.before.before.before.before.before.before.before.before.before.before.before.before.before.before.before.before.before.before.before.before.before.before.loop.invariant.0 (record { tokens = c.before.before.before.before.before.before.before.before.before.before.before.before.before.before.expand.auto.0; sums = c.before.before.before.before.before.before.before.before.before.before.before.before.before.before.expand.auto.1.0; records = c.before.before.before.before.before.before.before.before.before.before.before.before.before.before.expand.auto.1.1.0; labels = c.before.before.before.before.before.before.before.before.before.before.before.before.before.before.expand.auto.1.1.1.0; gaps = c.before.before.before.before.before.before.before.before.before.before.before.before.before.before.expand.auto.1.1.1.1.0 }),
   c.before.before.before.before.before.before.before.before.before.before.before.before.before.before.expand.auto.1.1.1.1.1.0 ∙ c.before.before.before.before.before.before.before.before.before.before.before.before.before.before.before.before.before.before.before.before.before.before.before.before.loop.invariant.1,
-  λ G. far-next G (c.before.before.before.before.before.before.before.before.before.before.before.before.before.before.before.before.before.before.before.before.before.before.before.before.loop.invariant.2 G) c.before.before.before.before.before.before.before.before.before.before.before.before.before.before.before.before.before.before.before.before.before.before.if1.true c.before.before.before.before.before.before.before.before.before.before.before.before.before.before.before.before.before.before.before.before.before.before.before.before.loop.invariant.1 _ refl c.before.before.before.before.before.before.before.before.before.before.before.before.before.before.expand.ensures _ c.before.next.given.1,
+  λ G. far_next G (c.before.before.before.before.before.before.before.before.before.before.before.before.before.before.before.before.before.before.before.before.before.before.before.before.loop.invariant.2 G) c.before.before.before.before.before.before.before.before.before.before.before.before.before.before.before.before.before.before.before.before.before.before.if1.true c.before.before.before.before.before.before.before.before.before.before.before.before.before.before.before.before.before.before.before.before.before.before.before.before.loop.invariant.1 _ refl c.before.before.before.before.before.before.before.before.before.before.before.before.before.before.expand.ensures _ c.before.next.given.1,
 )
 
 same-length-7 : tie.Need-same-length-7 invariant-loop decreases-loop
@@ -93,7 +93,7 @@ same-length-12 : tie.Need-same-length-12 invariant-loop decreases-loop
 same-length-12 c = c.before.before.loop.invariant.1
 
 returns-2 : tie.Need-returns-2 invariant-loop decreases-loop
-returns-2 c = λ G. far-end G (c.before.before.loop.invariant.2 G) c.if1.false
+returns-2 c = λ G. far_end G (c.before.before.loop.invariant.2 G) c.if1.false
 
 pub drain-spec : {M : Type 1} → statement M
 drain-spec =

@@ -1,22 +1,22 @@
 -- The token's own path comes into hand; the pass reads no frame.
 use mathlib.Core.Path.{sym, ◌∙◌}
 use borrow.Author.Tests.{not-true, not-false}
-use Rattle.nonemitting.specs.Expand.{token-asks, expand-vacant, expand-cut, state-given, expand-goes}
+use Rattle.nonemitting.specs.Expand.{token_asks, expand_vacant, expand_cut, state_given, expand_goes}
 use borrow.Author.Rules.{rules}
 use Rattle.nonemitting.proofs.expand.Statement.{statement}
 use Rattle.nonemitting.proofs.expand.Tie as tie
 
 is-active-requires : tie.Need-is-active-requires
-is-active-requires c κs = let z = token-asks c.before.before.before.before.before.before.before.before.before.before.requires in (z.0, z.1)
+is-active-requires c κs = let z = token_asks c.before.before.before.before.before.before.before.before.before.before.requires in (z.0, z.1)
 
 same_length : tie.Need-same-length
 same_length c = search rules
 
 returns : tie.Need-returns
-returns c = λ G. expand-vacant G (sym c.before.is-active.ensures ∙ not-true _ c.if1.true)
+returns c = λ G. expand_vacant G (sym c.before.is-active.ensures ∙ not-true _ c.if1.true)
 
 token-at-requires : tie.Need-token-at-requires
-token-at-requires c κs = token-asks c.before.before.before.before.before.before.before.before.before.before.before.before.before.before.requires
+token-at-requires c κs = token_asks c.before.before.before.before.before.before.before.before.before.before.before.before.before.before.requires
 
 same-length-2 : tie.Need-same-length-2
 same-length-2 c = search rules
@@ -25,13 +25,13 @@ same-length-3 : tie.Need-same-length-3
 same-length-3 c = search rules
 
 returns-2 : tie.Need-returns-2
-returns-2 c = λ G. expand-cut G (sym c.before.before.before.before.before.before.before.is-active.ensures ∙ not-false _ c.before.before.before.before.before.before.if1.false) _ c.before.before.before.token-at.ensures c.if2.true
+returns-2 c = λ G. expand_cut G (sym c.before.before.before.before.before.before.before.is-active.ensures ∙ not-false _ c.before.before.before.before.before.before.if1.false) _ c.before.before.before.token-at.ensures c.if2.true
 
 slice-aggregate-arrive-state : tie.Need-slice-aggregate-arrive-state
 slice-aggregate-arrive-state c = search rules
 
 arrive-state-requires : tie.Need-arrive-state-requires
-arrive-state-requires c κs = state-given c.before.before.before.before.before.before.before.before.before.before.before.before.before.before.before.before.before.before.before.before.before.before.before.before.before.requires (sym c.before.before.before.before.before.before.before.before.before.before.before.before.before.before.is-active.ensures ∙ not-false _ c.before.before.before.before.before.before.before.before.before.before.before.before.before.if1.false) _ c.before.before.before.before.before.before.before.before.before.before.token-at.ensures _
+arrive-state-requires c κs = state_given c.before.before.before.before.before.before.before.before.before.before.before.before.before.before.before.before.before.before.before.before.before.before.before.before.before.requires (sym c.before.before.before.before.before.before.before.before.before.before.before.before.before.before.is-active.ensures ∙ not-false _ c.before.before.before.before.before.before.before.before.before.before.before.before.before.if1.false) _ c.before.before.before.before.before.before.before.before.before.before.token-at.ensures _
 
 same-length-4 : tie.Need-same-length-4
 same-length-4 c = search rules
@@ -52,7 +52,7 @@ same-length-9 : tie.Need-same-length-9
 same-length-9 c = search rules
 
 returns-3 : tie.Need-returns-3
-returns-3 c = λ G. expand-goes G (sym c.before.before.before.before.before.before.before.before.before.before.before.before.before.before.before.before.before.before.before.before.before.before.before.before.before.before.is-active.ensures ∙ not-false _ c.before.before.before.before.before.before.before.before.before.before.before.before.before.before.before.before.before.before.before.before.before.before.before.before.before.if1.false) _ c.before.before.before.before.before.before.before.before.before.before.before.before.before.before.before.before.before.before.before.before.before.before.token-at.ensures _ _ _ _ c.before.before.before.before.before.before.before.before.before.before.before.before.before.before.before.before.before.before.before.if2.false c.before.before.before.before.before.before.before.before.before.before.before.arrive-state.ensures
+returns-3 c = λ G. expand_goes G (sym c.before.before.before.before.before.before.before.before.before.before.before.before.before.before.before.before.before.before.before.before.before.before.before.before.before.before.is-active.ensures ∙ not-false _ c.before.before.before.before.before.before.before.before.before.before.before.before.before.before.before.before.before.before.before.before.before.before.before.before.before.if1.false) _ c.before.before.before.before.before.before.before.before.before.before.before.before.before.before.before.before.before.before.before.before.before.before.token-at.ensures _ _ _ _ c.before.before.before.before.before.before.before.before.before.before.before.before.before.before.before.before.before.before.before.if2.false c.before.before.before.before.before.before.before.before.before.before.before.arrive-state.ensures
 
 pub expand-spec : {M : Type 1} → statement M
 expand-spec =

@@ -1,11 +1,11 @@
 -- The pushes, and then the loop.
-use Rattle.nonemitting.specs.Pass.{push-given, push-asks, push-stops, drain-given, drained}
+use Rattle.nonemitting.specs.Pass.{push_given, push_asks, push_stops, drain_given, drained}
 use borrow.Author.Rules.{rules}
 use Rattle.nonemitting.proofs.nonemitting.Statement.{statement}
 use Rattle.nonemitting.proofs.nonemitting.Tie as tie
 
 push-active-requires : tie.Need-push-active-requires
-push-active-requires c κs = push-asks c.before.before.before.before.before.before.before.before.before.before.before.requires
+push-active-requires c κs = push_asks c.before.before.before.before.before.before.before.before.before.before.before.requires
 
 enum-known-n : tie.Need-enum-known-n
 enum-known-n c = search rules
@@ -14,7 +14,7 @@ enum-known-w : tie.Need-enum-known-w
 enum-known-w c = search rules
 
 drain-requires : tie.Need-drain-requires
-drain-requires c κs = drain-given c.before.before.before.before.before.before.before.before.before.before.before.before.before.before.before.before.before.before.before.before.before.before.before.requires c.before.before.before.before.before.before.before.before.before.before.before.before.before.before.before.before.before.before.before.before.before.slice-known2.given _ c.before.before.before.before.before.before.before.before.before.before.before.push-active.auto.1.0 _ _ c.before.before.before.before.before.before.before.w.given.1 (c.before.before.before.before.before.before.before.before.before.before.before.push-active.ensures _ _ _ _ (push-given c.before.before.before.before.before.before.before.before.before.before.before.before.before.before.before.before.before.before.before.before.before.before.before.requires))
+drain-requires c κs = drain_given c.before.before.before.before.before.before.before.before.before.before.before.before.before.before.before.before.before.before.before.before.before.before.before.requires c.before.before.before.before.before.before.before.before.before.before.before.before.before.before.before.before.before.before.before.before.before.slice-known2.given _ c.before.before.before.before.before.before.before.before.before.before.before.push-active.auto.1.0 _ _ c.before.before.before.before.before.before.before.w.given.1 (c.before.before.before.before.before.before.before.before.before.before.before.push-active.ensures _ _ _ _ (push_given c.before.before.before.before.before.before.before.before.before.before.before.before.before.before.before.before.before.before.before.before.before.before.before.requires))
 
 same_length : tie.Need-same-length
 same_length c = search rules
@@ -23,7 +23,7 @@ same-length-2 : tie.Need-same-length-2
 same-length-2 c = search rules
 
 returns : tie.Need-returns
-returns c = λ G. push-stops G c.before.before.before.before.before.before.before.before.before.before.before.before.before.before.before.slice-known2.given _ _ _ c.before.n.given.1 (c.before.before.before.before.before.push-active.ensures _ _ _ _ (push-given G))
+returns c = λ G. push_stops G c.before.before.before.before.before.before.before.before.before.before.before.before.before.before.before.slice-known2.given _ _ _ c.before.n.given.1 (c.before.before.before.before.before.push-active.ensures _ _ _ _ (push_given G))
 
 same-length-3 : tie.Need-same-length-3
 same-length-3 c = search rules
@@ -44,7 +44,7 @@ same-length-8 : tie.Need-same-length-8
 same-length-8 c = search rules
 
 returns-2 : tie.Need-returns-2
-returns-2 c = λ G. drained G c.before.before.before.before.before.before.before.before.before.before.before.before.before.before.before.before.before.before.before.before.before.before.before.before.before.before.before.before.before.before.before.before.before.slice-known2.given _ c.before.before.before.before.before.before.before.before.before.before.before.before.before.before.before.before.before.before.before.before.before.before.before.push-active.auto.1.0 _ _ c.before.before.before.before.before.before.before.before.before.before.before.before.before.before.before.before.before.before.before.w.given.1 (c.before.before.before.before.before.before.before.before.before.before.before.before.before.before.before.before.before.before.before.before.before.before.before.push-active.ensures _ _ _ _ (push-given G)) _ _ _ c.before.before.before.before.before.before.before.before.before.before.before.drain.ensures
+returns-2 c = λ G. drained G c.before.before.before.before.before.before.before.before.before.before.before.before.before.before.before.before.before.before.before.before.before.before.before.before.before.before.before.before.before.before.before.before.before.slice-known2.given _ c.before.before.before.before.before.before.before.before.before.before.before.before.before.before.before.before.before.before.before.before.before.before.before.push-active.auto.1.0 _ _ c.before.before.before.before.before.before.before.before.before.before.before.before.before.before.before.before.before.before.before.w.given.1 (c.before.before.before.before.before.before.before.before.before.before.before.before.before.before.before.before.before.before.before.before.before.before.before.push-active.ensures _ _ _ _ (push_given G)) _ _ _ c.before.before.before.before.before.before.before.before.before.before.before.drain.ensures
 
 pub nonemitting-spec : {M : Type 1} → statement M
 nonemitting-spec =

@@ -8,7 +8,7 @@ use lib.ListN.{length}
 use lib.Ieee.{Float}
 use Rattle.tokens.specs.Layout.{place_in, held_at}
 use Rattle.stores.specs.Rep.{lent}
-use Rattle.nonemitting.specs.Pushes.{PushGiven, SoFar, far-start, far-next, far-stop, far-end}
+use Rattle.nonemitting.specs.Pushes.{PushGiven, SoFar, far_start, far_next, far_stop, far_end}
 use borrow.Author.Rules.{rules}
 use Rattle.nonemitting.proofs.push_active.Statement.{statement}
 use Rattle.nonemitting.proofs.push_active.Tie as tie
@@ -26,7 +26,7 @@ next-active-requires : tie.Need-next-active-requires invariant-loop decreases-lo
 next-active-requires c κs = search rules
 
 loop-holds : tie.Need-loop-init invariant-loop decreases-loop
-loop-holds c = (c.next-active.ensures.upto, refl, c.next-active.ensures.active, λ sm rs rl gs G. far-start G c.next-active.ensures)
+loop-holds c = (c.next-active.ensures.upto, refl, c.next-active.ensures.active, λ sm rs rl gs G. far_start G c.next-active.ensures)
 
 push-state-requires : tie.Need-push-state-requires invariant-loop decreases-loop
 push-state-requires c κs = search rules
@@ -38,7 +38,7 @@ same_length : tie.Need-same-length invariant-loop decreases-loop
 same_length c = search rules
 
 returns : tie.Need-returns invariant-loop decreases-loop
-returns c = λ sm rs rl gs G. far-stop G (c.before.before.before.before.before.before.before.before.before.loop.invariant.3 sm rs rl gs G) c.before.before.before.before.before.before.before.if1.true (c.before.before.before.before.before.before.before.before.before.loop.invariant.2 c.before.before.before.before.before.before.before.if1.true) c.before.before.before.before.before.before.before.before.before.loop.invariant.1 c.before.before.before.before.before.push-state.ensures _ c.before.n.given.1
+returns c = λ sm rs rl gs G. far_stop G (c.before.before.before.before.before.before.before.before.before.loop.invariant.3 sm rs rl gs G) c.before.before.before.before.before.before.before.if1.true (c.before.before.before.before.before.before.before.before.before.loop.invariant.2 c.before.before.before.before.before.before.before.if1.true) c.before.before.before.before.before.before.before.before.before.loop.invariant.1 c.before.before.before.before.before.push-state.ensures _ c.before.n.given.1
 
 enum-known-next : tie.Need-enum-known-next invariant-loop decreases-loop
 enum-known-next c = search rules
@@ -53,13 +53,13 @@ loop-less : tie.Need-loop-smaller invariant-loop decreases-loop
 loop-less c = let z = c.next-active2.ensures.from in let h = c.before.before.before.before.before.before.before.before.if1.true in omega arith
 
 loop-again : tie.Need-loop-preserved invariant-loop decreases-loop
-loop-again c = (c.next-active2.ensures.upto, search rules, c.next-active2.ensures.active, λ sm rs rl gs G. far-next G (c.before.before.before.before.before.before.before.before.before.before.loop.invariant.3 sm rs rl gs G) c.before.before.before.before.before.before.before.before.if1.true (c.before.before.before.before.before.before.before.before.before.before.loop.invariant.2 c.before.before.before.before.before.before.before.before.if1.true) c.before.before.before.before.before.before.before.before.before.before.loop.invariant.1 c.before.before.before.before.before.before.push-state.ensures _ c.before.before.next.given.1 c.next-active2.ensures)
+loop-again c = (c.next-active2.ensures.upto, search rules, c.next-active2.ensures.active, λ sm rs rl gs G. far_next G (c.before.before.before.before.before.before.before.before.before.before.loop.invariant.3 sm rs rl gs G) c.before.before.before.before.before.before.before.before.if1.true (c.before.before.before.before.before.before.before.before.before.before.loop.invariant.2 c.before.before.before.before.before.before.before.before.if1.true) c.before.before.before.before.before.before.before.before.before.before.loop.invariant.1 c.before.before.before.before.before.before.push-state.ensures _ c.before.before.next.given.1 c.next-active2.ensures)
 
 same-length-2 : tie.Need-same-length-2 invariant-loop decreases-loop
 same-length-2 c = search rules
 
 returns-2 : tie.Need-returns-2 invariant-loop decreases-loop
-returns-2 c = λ sm rs rl gs G. far-end G (c.before.before.loop.invariant.3 sm rs rl gs G) c.if1.false c.before.before.loop.invariant.0
+returns-2 c = λ sm rs rl gs G. far_end G (c.before.before.loop.invariant.3 sm rs rl gs G) c.if1.false c.before.before.loop.invariant.0
 
 pub push-active-spec : {M : Type 1} → statement M
 push-active-spec =

@@ -1,5 +1,5 @@
 -- By whether there is a token.
-use Rattle.ranking.specs.Listed.{put-nobody, put-token}
+use Rattle.ranking.specs.Listed.{put_nobody, put_token}
 use borrow.Author.Rules.{rules}
 use Rattle.ranking.proofs.put_ranked.Statement.{statement}
 use Rattle.ranking.proofs.put_ranked.Tie as tie
@@ -29,7 +29,7 @@ add-result : tie.Need-overflow-add-result
 add-result c = search rules
 
 returns : tie.Need-returns
-returns c = put-nobody c.enum_told.given.1
+returns c = put_nobody c.enum_told.given.1
 
 same_length : tie.Need-same-length
 same_length c = search rules
@@ -38,7 +38,7 @@ same-length-2 : tie.Need-same-length-2
 same-length-2 c = search rules
 
 returns-2 : tie.Need-returns-2
-returns-2 c = put-token _ _ c.before.before.before.before.before.before.requires c.before.before.best.given.1 c.rank-key.ensures
+returns-2 c = put_token _ _ c.before.before.before.before.before.before.requires c.before.before.best.given.1 c.rank-key.ensures
 
 pub put-ranked-spec : {M : Type 1} → statement M
 put-ranked-spec =

@@ -1,5 +1,5 @@
 -- The listed states, sorted by key.
-use Rattle.ranking.specs.Ranking.{ranked-is}
+use Rattle.ranking.specs.Ranking.{ranked_is}
 use borrow.Author.Rules.{rules}
 use Rattle.ranking.proofs.ranked.Statement.{statement}
 use Rattle.ranking.proofs.ranked.Tie as tie
@@ -17,7 +17,7 @@ same-length-2 : tie.Need-same-length-2
 same-length-2 c = search rules
 
 returns : tie.Need-returns
-returns c = ranked-is c.before.before.before.before.before.before.before.before.before.before.before.before.before.before.before.before.before.before.before.requires (λ i. (c.before.before.before.before.before.before.before.before.before.before.before.before.before.before.before.before.before.before.shared-slice-known.given i).fits) c.before.before.before.before.before.before.before.before.before.before.before.rank-all.ensures (record { keys_length = same_length c; items-length = same-length-2 c }) c.before.before.before.before.sort.ensures
+returns c = ranked_is c.before.before.before.before.before.before.before.before.before.before.before.before.before.before.before.before.before.before.before.requires (λ i. (c.before.before.before.before.before.before.before.before.before.before.before.before.before.before.before.before.before.before.shared-slice-known.given i).fits) c.before.before.before.before.before.before.before.before.before.before.before.rank-all.ensures (record { keys_length = same_length c; items-length = same-length-2 c }) c.before.before.before.before.sort.ensures
 
 pub ranked-spec : {M : Type 1} → statement M
 ranked-spec =

@@ -4,7 +4,7 @@ use native.Mathlib.Omega.{arith}
 use Prim.Native.Nat.{ℕ, ◌-◌, ◌≤◌}
 use lib.ListN.{length}
 use Rattle.reading_list.specs.Lines.{view, TotalsAre}
-use Rattle.reading_list.specs.Totals.{total-none, path-of, fits_more, total-more}
+use Rattle.reading_list.specs.Totals.{total_none, path_of_lem, fits_more, total_more}
 use Rattle.reading_list.proofs.measure_all.Statement.{statement}
 use Rattle.reading_list.proofs.measure_all.Tie as tie
 
@@ -17,7 +17,7 @@ decreases-loop tokens sums finals records labels side used history-skips history
     k - i
 
 loop-holds : tie.Need-loop-init invariant-loop decreases-loop
-loop-holds c = (omega arith, refl, total-none c.before.before.before.before.before.before.before.before.before.before.before.before.requires.0 c.before.before.before.before.before.before.before.before.before.before.before.before.args.max)
+loop-holds c = (omega arith, refl, total_none c.before.before.before.before.before.before.before.before.before.before.before.before.requires.0 c.before.before.before.before.before.before.before.before.before.before.before.before.args.max)
 
 mul-reading-at : tie.Need-overflow-mul-reading-at invariant-loop decreases-loop
 mul-reading-at c = record { fits = let z = c.before.before.before.before.before.before.before.before.before.before.before.before.before.before.requires.0.few in omega arith }
@@ -29,7 +29,7 @@ reading-at-requires : tie.Need-reading-at-requires invariant-loop decreases-loop
 reading-at-requires c κs = c.before.before.before.before.before.before.before.before.before.before.before.before.before.before.before.requires.0.items _ c.before.loop-test.true
 
 measure-reading-requires : tie.Need-measure-reading-requires invariant-loop decreases-loop
-measure-reading-requires c κs = (path-of c.before.before.before.before.before.before.before.before.before.before.before.before.before.before.before.before.before.requires.0 c.before.before.before.before.before.before.before.before.before.before.before.before.before.before.before.before.before.args.max c.before.before.before.loop-test.true c.before.reading-at.ensures c.before.before.before.before.loop.invariant.1, c.before.before.before.before.before.before.before.before.before.before.before.before.before.before.before.before.before.requires.1, c.before.before.before.before.before.before.before.before.before.before.before.before.before.before.before.before.before.requires.2)
+measure-reading-requires c κs = (path_of_lem c.before.before.before.before.before.before.before.before.before.before.before.before.before.before.before.before.before.requires.0 c.before.before.before.before.before.before.before.before.before.before.before.before.before.before.before.before.before.args.max c.before.before.before.loop-test.true c.before.reading-at.ensures c.before.before.before.before.loop.invariant.1, c.before.before.before.before.before.before.before.before.before.before.before.before.before.before.before.before.before.requires.1, c.before.before.before.before.before.before.before.before.before.before.before.before.before.before.before.before.before.requires.2)
 
 grown-requires : tie.Need-grown-requires invariant-loop decreases-loop
 grown-requires c κs = fits_more c.before.before.before.before.before.before.before.before.before.before.before.before.before.before.before.before.before.before.before.before.requires.0 c.before.before.before.before.before.before.before.before.before.before.before.before.before.before.before.before.before.before.before.before.args.max c.before.before.before.before.before.before.loop-test.true c.before.before.before.before.reading-at.ensures c.before.before.before.before.before.before.before.loop.invariant.2 c.before.before.measure-reading.ensures
@@ -41,7 +41,7 @@ loop-less : tie.Need-loop-smaller invariant-loop decreases-loop
 loop-less c = omega arith
 
 loop-again : tie.Need-loop-preserved invariant-loop decreases-loop
-loop-again c = (omega arith, c.before.before.before.measure-reading.auto.1.1.1.1.1.1.1.1.1.1.1.0 ∙ c.before.before.before.before.before.before.before.before.loop.invariant.1, total-more c.before.before.before.before.before.before.before.before.before.before.before.before.before.before.before.before.before.before.before.before.before.requires.0 c.before.before.before.before.before.before.before.before.before.before.before.before.before.before.before.before.before.before.before.before.before.args.max c.before.before.before.before.before.before.before.loop-test.true c.before.before.before.before.before.reading-at.ensures c.before.before.before.before.before.before.before.before.loop.invariant.2 c.before.before.before.measure-reading.ensures c.grown.ensures)
+loop-again c = (omega arith, c.before.before.before.measure-reading.auto.1.1.1.1.1.1.1.1.1.1.1.0 ∙ c.before.before.before.before.before.before.before.before.loop.invariant.1, total_more c.before.before.before.before.before.before.before.before.before.before.before.before.before.before.before.before.before.before.before.before.before.requires.0 c.before.before.before.before.before.before.before.before.before.before.before.before.before.before.before.before.before.before.before.before.before.args.max c.before.before.before.before.before.before.before.loop-test.true c.before.before.before.before.before.reading-at.ensures c.before.before.before.before.before.before.before.before.loop.invariant.2 c.before.before.before.measure-reading.ensures c.grown.ensures)
 
 same_length : tie.Need-same-length invariant-loop decreases-loop
 same_length c = c.before.loop.invariant.1

@@ -1,7 +1,7 @@
 -- By which half of the numbers the item is in.
 use mathlib.Core.Path.{ap, ◌∙◌}
 use borrow.Author.Tests.{lt-ltb, le-ltb}
-use Rattle.reading_list.specs.Items.{ownReading, keptReading, itemReading}
+use Rattle.reading_list.specs.Items.{own_reading, kept_reading, item_reading}
 use borrow.Author.Rules.{rules}
 use Rattle.reading_list.proofs.reading_at.Statement.{statement}
 use Rattle.reading_list.proofs.reading_at.Tie as tie
@@ -13,8 +13,8 @@ own-reading-requires : tie.Need-own-reading-requires
 own-reading-requires c κs = search rules
 
 returns : tie.Need-returns
-unfolding itemReading
-returns c = c.own-reading.ensures ∙ ap ownReading c.before.candidate-at.ensures ∙ (rw (lt-ltb _ _ c.before.before.if1.true))
+unfolding item_reading
+returns c = c.own-reading.ensures ∙ ap own_reading c.before.candidate-at.ensures ∙ (rw (lt-ltb _ _ c.before.before.if1.true))
 
 cast-kept-at : tie.Need-overflow-cast-kept-at
 cast-kept-at c = search rules
@@ -26,8 +26,8 @@ kept-reading-requires : tie.Need-kept-reading-requires
 kept-reading-requires c κs = search rules
 
 returns-2 : tie.Need-returns-2
-unfolding itemReading
-returns-2 c = c.kept-reading.ensures ∙ ap keptReading c.before.kept_at.ensures ∙ (rw (le-ltb _ _ c.before.before.if1.false))
+unfolding item_reading
+returns-2 c = c.kept-reading.ensures ∙ ap kept_reading c.before.kept_at.ensures ∙ (rw (le-ltb _ _ c.before.before.if1.false))
 
 pub reading-at-spec : {M : Type 1} → statement M
 reading-at-spec =

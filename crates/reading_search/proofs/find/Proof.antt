@@ -3,7 +3,7 @@ use mathlib.Core.Path.{sym, ◌∙◌}
 use borrow.Author.Rules.{rules}
 use mir.Syntax.{w32}
 use mir.ValLaws.{to_z-of_z}
-use Rattle.model.specs.Search.{firstReading}
+use Rattle.model.specs.Search.{first_reading}
 use Rattle.reading_search.proofs.find.Statement.{statement}
 use Rattle.reading_search.proofs.find.Tie as tie
 
@@ -11,7 +11,7 @@ parts-wrong-requires : tie.Need-parts-wrong-requires
 parts-wrong-requires c κs = search rules
 
 returns : tie.Need-returns
-unfolding firstReading
+unfolding first_reading
 returns c = rw (sym c.before.parts-wrong.ensures ∙ c.if1.true)
 
 search-requires : tie.Need-search-requires

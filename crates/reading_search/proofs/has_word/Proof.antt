@@ -9,7 +9,7 @@ use mir.Syntax.{w32}
 use mir.Val.{to_z}
 use mir.ValLaws.{to_z-of_z}
 use Rattle.model.specs.Search.{contains}
-use Rattle.reading_search.proofs.Words.{is-here, not-here}
+use Rattle.reading_search.proofs.Words.{is_here, not_here}
 use Rattle.reading_search.proofs.has_word.Statement.{statement}
 use Rattle.reading_search.proofs.has_word.Tie as tie
 
@@ -34,7 +34,7 @@ returns c =
     let f = c.before.before.before.before.ranges.word in
     let l = c.before.before.before.loop in
     let own = to_z-of_z w32 a.word f in
-    sym (rw own at l.invariant.1 ∙ is-here a.word a.reading.now l.i (omega arith) f (record { sfits = c.before.if12.given }) c.if1.true)
+    sym (rw own at l.invariant.1 ∙ is_here a.word a.reading.now l.i (omega arith) f (record { sfits = c.before.if12.given }) c.if1.true)
 
 add-i : tie.Need-overflow-add-i invariant-loop decreases-loop
 add-i c = omega arith
@@ -48,7 +48,7 @@ loop-again c =
     let f = c.before.before.before.before.ranges.word in
     let l = c.before.before.before.loop in
     let own = to_z-of_z w32 a.word f in
-    (omega arith, rw own (rw own at l.invariant.1 ∙ not-here a.word a.reading.now l.i (omega arith) f (record { sfits = c.before.if12.given }) c.if1.false))
+    (omega arith, rw own (rw own at l.invariant.1 ∙ not_here a.word a.reading.now l.i (omega arith) f (record { sfits = c.before.if12.given }) c.if1.false))
 
 returns-2 : tie.Need-returns-2 invariant-loop decreases-loop
 returns-2 c =

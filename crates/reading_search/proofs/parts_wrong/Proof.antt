@@ -5,13 +5,13 @@ use native.Mathlib.Omega.{arith}
 use borrow.Author.Rules.{rules}
 use lib.ListN.{length, drop}
 use lib.Seq.{drop-length}
-use Rattle.model.specs.Search.{partsWrong}
-use Rattle.reading_search.proofs.Ends.{falls, passes, goes_on}
+use Rattle.model.specs.Search.{parts_wrong}
+use Rattle.reading_search.proofs.Ends.{falls, passes, goes_on_lem}
 use Rattle.reading_search.proofs.parts_wrong.Statement.{statement}
 use Rattle.reading_search.proofs.parts_wrong.Tie as tie
 
 abbrev invariant-loop : tie.invariant-loop
-invariant-loop ends limit from₀ i₀ from i = (i ≤ length ends) × (partsWrong 0 limit ends ≡ partsWrong from limit (drop i ends))
+invariant-loop ends limit from₀ i₀ from i = (i ≤ length ends) × (parts_wrong 0 limit ends ≡ parts_wrong from limit (drop i ends))
 
 abbrev decreases-loop : tie.decreases-loop
 decreases-loop ends limit from₀ i₀ from i = length ends - i
@@ -53,7 +53,7 @@ loop-again c =
     let a = c.before.before.before.before.before.before.before.args in
     let l = c.before.before.before.before.before.loop in
     let w = c.before.before.wide in
-    (omega arith, l.invariant.1 ∙ goes_on a.limit l.from a.ends.now l.i (omega arith) w.result w.ensures c.before.if1.false c.if2.false)
+    (omega arith, l.invariant.1 ∙ goes_on_lem a.limit l.from a.ends.now l.i (omega arith) w.result w.ensures c.before.if1.false c.if2.false)
 
 returns-3 : tie.Need-returns-3 invariant-loop decreases-loop
 returns-3 c =

@@ -7,8 +7,8 @@ use lib.ListN.{length}
 use mir.Syntax.{w32}
 use mir.Val.{to_z}
 use mir.ValLaws.{to_z-of_z}
-use Rattle.model.specs.Search.{firstReading}
-use Rattle.reading_search.proofs.Searching.{Searching, searching-none, searching-more, end-right, found_here, found_nowhere}
+use Rattle.model.specs.Search.{first_reading}
+use Rattle.reading_search.proofs.Searching.{Searching, searching_none, searching_more, end_right, found_here, found_nowhere}
 use Rattle.reading_search.proofs.search.Statement.{statement}
 use Rattle.reading_search.proofs.search.Tie as tie
 
@@ -25,7 +25,7 @@ held c = rw (to_z-of_z w32 c.before.before.args.word c.before.before.ranges.word
 loop-holds : tie.Need-loop-init invariant-loop decreases-loop
 loop-holds c =
     let a = c.before.args in
-    searching-none _ a.ends.now a.words.now c.before.requires
+    searching_none _ a.ends.now a.words.now c.before.requires
 
 mul_wide : tie.Need-overflow-mul-wide invariant-loop decreases-loop
 mul_wide c = omega arith
@@ -41,7 +41,7 @@ right-here : (c : tie.After-wide invariant-loop decreases-loop) → (c.before.be
 right-here c =
     let a = c.before.before.before.before.before.args in
     let l = c.before.before.before.loop in
-    let (f, g, r) = end-right _ a.ends.now a.words.now l.from l.reading c.wide.result l.invariant c.before.before.loop-test.true c.wide.ensures in
+    let (f, g, r) = end_right _ a.ends.now a.words.now l.from l.reading c.wide.result l.invariant c.before.before.loop-test.true c.wide.ensures in
     (f, g)
 
 mul-has-word : tie.Need-overflow-mul-has-word invariant-loop decreases-loop
@@ -60,7 +60,7 @@ has-word-requires : tie.Need-has-word-requires invariant-loop decreases-loop
 has-word-requires c κs = search rules
 
 returns : tie.Need-returns invariant-loop decreases-loop
-unfolding firstReading
+unfolding first_reading
 returns c =
     let s = c.before.before.before.before.before.before.before.before in
     let a = s.args in
@@ -82,10 +82,10 @@ loop-again c =
     let l = c.before.before.before.before.before.before.loop in
     let w = c.before.before.before.wide in
     let own = to_z-of_z w32 a.word c.before.before.before.before.before.before.before.before.ranges.word in
-    rw own (searching-more a.word a.ends.now a.words.now l.from l.reading w.result (held c.before.before.before.before.before.before) c.before.before.before.before.before.loop-test.true w.ensures (sym (rw own at c.before.Has-word.ensures) ∙ c.if1.false))
+    rw own (searching_more a.word a.ends.now a.words.now l.from l.reading w.result (held c.before.before.before.before.before.before) c.before.before.before.before.before.loop-test.true w.ensures (sym (rw own at c.before.Has-word.ensures) ∙ c.if1.false))
 
 returns-2 : tie.Need-returns-2 invariant-loop decreases-loop
-unfolding firstReading
+unfolding first_reading
 returns-2 c =
     let s = c.before.before.before in
     let l = c.before.loop in

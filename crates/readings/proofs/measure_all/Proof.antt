@@ -2,21 +2,21 @@
 use mathlib.Core.Path.{subst}
 use native.Mathlib.Omega.{arith}
 use Prim.Native.Nat.{ℕ, ◌-◌, ◌≤◌}
-use Rattle.readings.specs.Paths.{TotalIs, sizeBy}
-use Rattle.readings.specs.Totals.{total-none, total-next}
+use Rattle.readings.specs.Paths.{TotalIs, size_by}
+use Rattle.readings.specs.Totals.{total_none, total_next}
 use Rattle.readings.proofs.measure_all.Statement.{statement}
 use Rattle.readings.proofs.measure_all.Tie as tie
 
 abbrev invariant-loop : tie.invariant-loop
 invariant-loop tokens records labels side used n order k words₀ segments₀ i₀ words segments i =
-    (i ≤ k) × TotalIs tokens records labels side used n order i (sizeBy words segments)
+    (i ≤ k) × TotalIs tokens records labels side used n order i (size_by words segments)
 
 abbrev decreases-loop : tie.decreases-loop
 decreases-loop tokens records labels side used n order k words₀ segments₀ i₀ words segments i =
     k - i
 
 loop-holds : tie.Need-loop-init invariant-loop decreases-loop
-loop-holds c = (omega arith, total-none)
+loop-holds c = (omega arith, total_none)
 
 mul-measure-at : tie.Need-overflow-mul-measure-at invariant-loop decreases-loop
 mul-measure-at c = record { fits = let g = c.before.before.before.before.before.well-formed.1.1.1.1.1.1.0.0 in let z = c.before.before.before.before.before.requires.long in omega arith }
@@ -40,11 +40,11 @@ loop-less : tie.Need-loop-smaller invariant-loop decreases-loop
 loop-less c = omega arith
 
 loop-again : tie.Need-loop-preserved invariant-loop decreases-loop
-loop-again c = (omega arith, total-next c.before.before.before.before.before.loop.invariant.1 (let z = c.before.before.before.before.before.before.before.before.before.requires.long in omega arith) (c.before.before.before.before.before.before.before.before.before.requires.each _ c.before.before.before.before.loop-test.true).walkable.few c.before.before.measure-at.ensures)
+loop-again c = (omega arith, total_next c.before.before.before.before.before.loop.invariant.1 (let z = c.before.before.before.before.before.before.before.before.before.requires.long in omega arith) (c.before.before.before.before.before.before.before.before.before.requires.each _ c.before.before.before.before.loop-test.true).walkable.few c.before.before.measure-at.ensures)
 
 returns : tie.Need-returns invariant-loop decreases-loop
 returns c = let a = c.before.before.before.before.before.args in let e = c.before.loop.invariant.0 in let f = c.loop-test.false in
-    subst (λ (j : ℕ). TotalIs a.tokens.now a.records.now a.labels.now a.side a.used a.n a.order.now j (sizeBy c.before.loop.words c.before.loop.segments)) (omega arith) c.before.loop.invariant.1
+    subst (λ (j : ℕ). TotalIs a.tokens.now a.records.now a.labels.now a.side a.used a.n a.order.now j (size_by c.before.loop.words c.before.loop.segments)) (omega arith) c.before.loop.invariant.1
 
 pub measure-all-spec : {M : Type 1} → statement M
 measure-all-spec =

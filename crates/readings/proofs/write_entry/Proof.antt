@@ -4,10 +4,10 @@ use native.Mathlib.Omega.{arith}
 use Prim.Native.Nat.{ℕ, ◌*◌}
 use mathlib.Core.List.{[]}
 use lib.ListN.{set, length-set}
-use Rattle.traceback.specs.Trail.{noTrail}
-use Rattle.traceback.specs.Chain.{trailFrom}
+use Rattle.traceback.specs.Trail.{no_trail}
+use Rattle.traceback.specs.Chain.{trail_from}
 use Rattle.readings.specs.Paths.{PutAsks}
-use Rattle.readings.specs.Fronts.{put-at}
+use Rattle.readings.specs.Fronts.{put_at}
 use borrow.Author.Rules.{rules}
 use Rattle.readings.proofs.write_entry.Statement.{statement}
 use Rattle.readings.proofs.write_entry.Tie as tie
@@ -19,7 +19,7 @@ slice-aggregate-write-path : tie.Need-slice-aggregate-write-path
 slice-aggregate-write-path c = search rules
 
 write-path-requires : tie.Need-write-path-requires
-write-path-requires c κs = (c.before.before.before.before.before.before.before.before.before.before.before.before.before.requires.path.walkable, let z = c.before.before.before.before.before.before.before.before.before.before.before.before.before.requires.path.low in let k = c.before.before.before.before.link-at.ensures in omega arith, subst (λ (l : ℕ). PutAsks (trailFrom c.before.before.before.before.before.before.before.before.before.before.before.before.before.args.records.now c.before.before.before.before.before.before.before.before.before.before.before.before.before.args.labels.now [] c.before.before.before.before.before.before.before.before.before.before.before.before.before.args.n l noTrail) c.before.before.before.before.before.before.before.before.before.before.before.before.before.args.at c.before.before.before.before.before.before.before.before.before.before.before.before.before.args.words.now c.before.before.before.before.before.before.before.before.before.before.before.before.before.args.frames.now c.before.before.before.before.before.before.before.before.before.before.before.before.before.args.segments.now) (sym c.before.before.before.before.link-at.ensures) c.before.before.before.before.before.before.before.before.before.before.before.before.before.requires.put)
+write-path-requires c κs = (c.before.before.before.before.before.before.before.before.before.before.before.before.before.requires.path.walkable, let z = c.before.before.before.before.before.before.before.before.before.before.before.before.before.requires.path.low in let k = c.before.before.before.before.link-at.ensures in omega arith, subst (λ (l : ℕ). PutAsks (trail_from c.before.before.before.before.before.before.before.before.before.before.before.before.before.args.records.now c.before.before.before.before.before.before.before.before.before.before.before.before.before.args.labels.now [] c.before.before.before.before.before.before.before.before.before.before.before.before.before.args.n l no_trail) c.before.before.before.before.before.before.before.before.before.before.before.before.before.args.at c.before.before.before.before.before.before.before.before.before.before.before.before.before.args.words.now c.before.before.before.before.before.before.before.before.before.before.before.before.before.args.frames.now c.before.before.before.before.before.before.before.before.before.before.before.before.before.args.segments.now) (sym c.before.before.before.before.link-at.ensures) c.before.before.before.before.before.before.before.before.before.before.before.before.before.requires.put)
 
 mul-ends : tie.Need-overflow-mul-ends
 mul-ends c = record { fits = let z = c.before.before.before.before.before.before.before.before.before.before.before.before.before.before.before.before.before.before.before.requires.few in omega arith }
@@ -68,7 +68,7 @@ same-length-5 c = search rules
 
 returns : tie.Need-returns
 returns c = record {
-  path = put-at c.before.before.before.before.before.before.before.before.before.before.before.before.before.before.before.before.before.before.before.before.args.records.now c.before.before.before.before.before.before.before.before.before.before.before.before.before.before.before.before.before.before.before.before.args.labels.now c.before.before.before.before.before.before.before.before.before.before.before.before.before.before.before.before.before.before.before.before.args.n c.before.before.before.before.before.before.before.before.before.before.before.link-at.ensures c.before.before.before.before.before.before.write-path.ensures;
+  path = put_at c.before.before.before.before.before.before.before.before.before.before.before.before.before.before.before.before.before.before.before.before.args.records.now c.before.before.before.before.before.before.before.before.before.before.before.before.before.before.before.before.before.before.before.before.args.labels.now c.before.before.before.before.before.before.before.before.before.before.before.before.before.before.before.before.before.before.before.before.args.n c.before.before.before.before.before.before.before.before.before.before.before.link-at.ensures c.before.before.before.before.before.before.write-path.ensures;
   ends = refl;
   costs = ap (λ x. set c.before.before.before.before.before.before.before.before.before.before.before.before.before.before.before.before.before.before.before.before.args.costs.now c.before.before.before.before.before.before.before.before.before.before.before.before.before.before.before.before.before.before.before.before.args.i x) c.end-cost.ensures;
 }

@@ -1,6 +1,6 @@
 -- The path in the parts that begin where the paths so far end.
 use native.Mathlib.Omega.{arith}
-use Rattle.readings.specs.Fronts.{part-fits, path-put}
+use Rattle.readings.specs.Fronts.{part_fits, path_put}
 use borrow.Author.Rules.{rules}
 use Rattle.readings.proofs.write_path.Statement.{statement}
 use Rattle.readings.proofs.write_path.Tie as tie
@@ -54,7 +54,7 @@ part-write-end-3 : tie.Need-slice-bounds-write-end-3
 part-write-end-3 c = search rules
 
 write-requires : tie.Need-write-requires
-write-requires c κs = (c.before.before.before.before.before.before.before.before.before.before.requires.0, c.before.before.before.before.before.before.before.before.before.before.requires.1, c.before.before.before.before.before.measure.ensures, part-fits c.before.before.before.before.before.before.before.before.before.before.requires.2 c.before.before.before.before.before.measure.ensures)
+write-requires c κs = (c.before.before.before.before.before.before.before.before.before.before.requires.0, c.before.before.before.before.before.before.before.before.before.before.requires.1, c.before.before.before.before.before.measure.ensures, part_fits c.before.before.before.before.before.before.before.before.before.before.requires.2 c.before.before.before.before.before.measure.ensures)
 
 add-t30 : tie.Need-overflow-add-t30
 add-t30 c = record { fits = let z = c.before.before.before.before.before.before.before.before.before.before.before.before.before.before.before.before.before.before.requires.2.few.0 in let y = c.before.before.before.before.before.before.before.before.before.before.before.before.before.measure.ensures.few.0 in let q = c.before.before.before.before.before.before.before.before.before.before.before.before.before.before.before.before.before.before.requires.0.few in omega arith }
@@ -72,7 +72,7 @@ same-length-3 : tie.Need-same-length-3
 same-length-3 c = search rules
 
 returns : tie.Need-returns
-returns c = path-put c.before.before.before.before.before.before.before.before.before.before.before.before.before.before.before.before.before.before.before.before.requires.2 c.before.before.before.before.before.before.before.before.before.before.before.before.before.before.before.measure.ensures c.before.before.before.before.before.before.before.before.before.write.ensures
+returns c = path_put c.before.before.before.before.before.before.before.before.before.before.before.before.before.before.before.before.before.before.before.before.requires.2 c.before.before.before.before.before.before.before.before.before.before.before.before.before.before.before.measure.ensures c.before.before.before.before.before.before.before.before.before.write.ensures
 
 pub write-path-spec : {M : Type 1} → statement M
 write-path-spec =

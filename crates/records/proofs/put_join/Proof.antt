@@ -1,7 +1,7 @@
 -- Its stores are the join's fields at its places.
 use native.Mathlib.Numerals.{towards_suc}
 use Rattle.model.specs.Ints.{back}
-use Rattle.records.specs.Puts.{join-put}
+use Rattle.records.specs.Puts.{join_put}
 use borrow.Author.Rules.{rules}
 use Rattle.records.proofs.put_join.Statement.{statement}
 use Rattle.records.proofs.put_join.Tie as tie
@@ -117,7 +117,7 @@ same-length-3 : tie.Need-same-length-3
 same-length-3 c = search rules
 
 returns : tie.Need-returns
-returns c = join-put _ _ _ _ _ _ _ _ _ c.before.args.k (omega arith) (omega arith) (omega arith) (simp towards_suc) (simp (towards_suc, back c.before.args.k.word c.struct_told.given.1.0.1)) (simp towards_suc)
+returns c = join_put _ _ _ _ _ _ _ _ _ c.before.args.k (omega arith) (omega arith) (omega arith) (simp towards_suc) (simp (towards_suc, back c.before.args.k.word c.struct_told.given.1.0.1)) (simp towards_suc)
 
 pub put-join-spec : {M : Type 1} → statement M
 put-join-spec =

@@ -2,7 +2,7 @@
 use native.Mathlib.Numerals.{towards_suc}
 use mir.Syntax.{w32}
 use mir.ValLaws.{to_z-of_z}
-use Rattle.records.specs.Puts.{link-put}
+use Rattle.records.specs.Puts.{link_put}
 use borrow.Author.Rules.{rules}
 use Rattle.records.proofs.put_link.Statement.{statement}
 use Rattle.records.proofs.put_link.Tie as tie
@@ -64,7 +64,7 @@ same-length-2 : tie.Need-same-length-2
 same-length-2 c = search rules
 
 returns : tie.Need-returns
-returns c = link-put _ _ _ _ _ _ _ _ _ (omega arith) (omega arith) (simp towards_suc) (simp (towards_suc, to_z-of_z w32 c.args.word c.ranges.word))
+returns c = link_put _ _ _ _ _ _ _ _ _ (omega arith) (omega arith) (simp towards_suc) (simp (towards_suc, to_z-of_z w32 c.args.word c.ranges.word))
 
 pub put-link-spec : {M : Type 1} → statement M
 put-link-spec =

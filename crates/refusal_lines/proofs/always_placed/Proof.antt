@@ -2,7 +2,7 @@
 use mathlib.Core.Path.{◌≡◌, sym, ◌∙◌}
 use mathlib.Core.Bool.{true, false}
 use borrow.Author.Rules.{rules}
-use Rattle.refusal_lines.specs.Line.{between, alwaysPlaced}
+use Rattle.refusal_lines.specs.Line.{between, always_placed}
 use Rattle.refusal_lines.proofs.always_placed.Statement.{statement}
 use Rattle.refusal_lines.proofs.always_placed.Tie as tie
 
@@ -13,13 +13,13 @@ between-requires-2 : tie.Need-between-requires-2
 between-requires-2 c κs = search rules
 
 returns : tie.Need-returns
-unfolding alwaysPlaced
+unfolding always_placed
 returns c =
     let t : between 3 5 c.before.before.args.number ≡ true = sym c.before.between.ensures ∙ c.if1.true in
     rw (c.if1.true, t)
 
 returns-2 : tie.Need-returns-2
-unfolding alwaysPlaced
+unfolding always_placed
 returns-2 c =
     let f : between 3 5 c.before.before.before.args.number ≡ false = sym c.before.before.between.ensures ∙ c.before.if1.false in
     rw f c.between2.ensures

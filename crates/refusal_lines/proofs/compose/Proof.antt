@@ -4,8 +4,8 @@ use native.Mathlib.Omega.{arith}
 use borrow.Author.Rules.{rules}
 use borrow.Author.Tests.{not-true, not-false}
 use Rattle.decimals.specs.Stored.{stored_more}
-use Rattle.refusal_lines.specs.Line.{text, numbered, name_of, placeText, heading, line_of}
-use Rattle.refusal_lines.specs.Laws.{name-length, numbered-length, place-length}
+use Rattle.refusal_lines.specs.Line.{text, numbered, name_of, place_text, heading, line_of}
+use Rattle.refusal_lines.specs.Laws.{name_length, numbered-length, place-length}
 use Rattle.refusal_lines.proofs.compose.Statement.{statement}
 use Rattle.refusal_lines.proofs.compose.Tie as tie
 
@@ -25,13 +25,13 @@ put-number-requires c κs = omega (arith, numbered-length (text "refusal ") c.be
 
 put-name-requires : tie.Need-put-name-requires
 unfolding text
-put-name-requires c κs = let n = c.before.before.before.before.before.before.before.before.before.args.refusal.number in omega (arith, numbered-length (text "refusal ") n, name-length n)
+put-name-requires c κs = let n = c.before.before.before.before.before.before.before.before.before.args.refusal.number in omega (arith, numbered-length (text "refusal ") n, name_length n)
 
 put-place-requires : tie.Need-put-place-requires
 unfolding text
 put-place-requires c κs =
     let x = c.before.before.before.before.before.before.before.before.before.before.before.before.before.args.refusal in
-    omega (arith, numbered-length (text "refusal ") x.number, name-length x.number, place-length x.place)
+    omega (arith, numbered-length (text "refusal ") x.number, name_length x.number, place-length x.place)
 
 same_length : tie.Need-same-length
 same_length c = search rules
@@ -47,7 +47,7 @@ returns-2 c =
     let x = test.before.before.before.args.refusal in
     let n = x.number in
     rw (sym call.ensures ∙ not-false call.result test.if1.false)
-    (stored_more (heading n) (placeText x.place) (stored_more (numbered (text "refusal ") n) (name_of n) number.put-number.ensures name.put-name.ensures) place.put-place.ensures)
+    (stored_more (heading n) (place_text x.place) (stored_more (numbered (text "refusal ") n) (name_of n) number.put-number.ensures name.put-name.ensures) place.put-place.ensures)
 
 pub compose-spec : {M : Type 1} → statement M
 compose-spec =

@@ -6,7 +6,7 @@ use native.Mathlib.Numerals.{add-one}
 use mathlib.Core.List.{[], ◌∷◌}
 use lib.ListN.{length, take, get_or}
 use lib.Seq.{sets, length-sets, take-suc, take-length, length-take-le}
-use Rattle.lists.specs.Parts.{sets-append}
+use Rattle.lists.specs.Parts.{sets_append}
 use Rattle.refusal_lines.proofs.put.Statement.{statement}
 use Rattle.refusal_lines.proofs.put.Tie as tie
 
@@ -45,7 +45,7 @@ loop-again c =
     let l = c.before.before.loop in
     let h : l.i < length part = omega arith in
     let e : length (take l.i part) ≡ l.i = length-take-le l.i part (omega arith) in
-    (omega arith, rw (add-one, take-suc part l.i 0, l.invariant.1) (rw e at (sym (sets-append a.out.now a.at (take l.i part) (get_or part l.i 0 ∷ [])))))
+    (omega arith, rw (add-one, take-suc part l.i 0, l.invariant.1) (rw e at (sym (sets_append a.out.now a.at (take l.i part) (get_or part l.i 0 ∷ [])))))
 
 add-result : tie.Need-overflow-add-result invariant-loop decreases-loop
 add-result c = omega arith

@@ -5,21 +5,21 @@ use borrow.Author.Rules.{rules}
 use Rattle.decimals.specs.Decimal.{decimal}
 use Rattle.decimals.specs.Stored.{stored_more}
 use Rattle.refusal_lines.specs.Line.{text, numbered}
-use Rattle.refusal_lines.specs.Laws.{numbered-parts}
+use Rattle.refusal_lines.specs.Laws.{numbered_parts}
 use Rattle.refusal_lines.proofs.put_number.Statement.{statement}
 use Rattle.refusal_lines.proofs.put_number.Tie as tie
 
 put-requires : tie.Need-put-requires
-put-requires c κs = let a = c.before.before.before.args in omega (arith, numbered-parts a.label.now a.number)
+put-requires c κs = let a = c.before.before.before.args in omega (arith, numbered_parts a.label.now a.number)
 
 write-decimal-requires : tie.Need-write-decimal-requires
-write-decimal-requires c κs = let a = c.before.before.before.before.before.before.before.args in omega (arith, numbered-parts a.label.now a.number)
+write-decimal-requires c κs = let a = c.before.before.before.before.before.before.before.args in omega (arith, numbered_parts a.label.now a.number)
 
 slice-aggregate-put : tie.Need-slice-aggregate-put
 slice-aggregate-put c = search rules
 
 put-requires-2 : tie.Need-put-requires-2
-put-requires-2 c κs = let a = c.before.before.before.before.before.before.before.before.before.before.before.before.args in omega (arith, numbered-parts a.label.now a.number)
+put-requires-2 c κs = let a = c.before.before.before.before.before.before.before.before.before.before.before.before.args in omega (arith, numbered_parts a.label.now a.number)
 
 same_length : tie.Need-same-length
 same_length c = search rules

@@ -7,7 +7,7 @@ use mathlib.Core.List.{List}
 use lib.ListN.{length, take, drop}
 use Rattle.decimals.specs.Stored.{Stored}
 use Rattle.refusal_lines.specs.Line.{text, unnamed, names, name_of}
-use Rattle.refusal_lines.specs.Laws.{name-length}
+use Rattle.refusal_lines.specs.Laws.{name_length}
 use Rattle.refusal_lines.proofs.Table.{rows, row_is}
 use Rattle.refusal_lines.proofs.put_row.Statement.{statement}
 use Rattle.refusal_lines.proofs.put_row.Tie as tie
@@ -28,7 +28,7 @@ part-put-start : tie.Need-slice-bounds-put-start
 part-put-start c = search rules
 
 part-put-end : tie.Need-slice-bounds-put-end
-part-put-end c = omega (arith, name-length c.before.before.before.args.row)
+part-put-end c = omega (arith, name_length c.before.before.before.args.row)
 
 put-requires : tie.Need-put-requires
 put-requires c κs = search rules

@@ -4,11 +4,11 @@ use native.Mathlib.Omega.{arith}
 use borrow.Author.Rules.{rules}
 use lib.ListN.{length, take, length-take}
 use Rattle.lists.specs.Tests.{never}
-use Rattle.decimals.specs.Stored.{stored-front}
+use Rattle.decimals.specs.Stored.{stored_front}
 use Rattle.refusals.specs.declared.Refusal.{Refusal}
 use Rattle.refusal_lines.specs.Line.{line_of}
 use Rattle.refusal_lines.specs.Answer.{Fits, IsRefusal}
-use Rattle.refusal_lines.specs.Laws.{line-length, only-refusal, refusal-fits, line-not-empty, line-placed}
+use Rattle.refusal_lines.specs.Laws.{line-length, only_refusal, refusal_fits, line_not_empty, line_placed}
 use Rattle.refusal_lines.proofs.read_line.Statement.{statement}
 use Rattle.refusal_lines.proofs.read_line.Tie as tie
 
@@ -26,10 +26,10 @@ compose-requires c κs = search rules
 
 -- the only refusal that can have the bytes for its line
 candidate : (c : tie.After-refusal-of) (x : Refusal) → IsRefusal x → line_of x ≡ c.before.before.before.args.bytes.now → c.refusal-of.result ≡ x
-candidate c x r d = let found = c.before.numbers-in in only-refusal _ found.result x c.refusal-of.result found.ensures c.refusal-of.ensures r d
+candidate c x r d = let found = c.before.numbers-in in only_refusal _ found.result x c.refusal-of.result found.ensures c.refusal-of.ensures r d
 
 returns : tie.Need-returns
-returns c x r d = omega (arith, ap (λ (y : Refusal). length (line_of y)) (candidate c.before.before.before.before x r d), line-not-empty x r)
+returns c x r d = omega (arith, ap (λ (y : Refusal). length (line_of y)) (candidate c.before.before.before.before x r d), line_not_empty x r)
 
 array-share-prefix-line : tie.Need-array-share-prefix-line
 array-share-prefix-line c = omega (arith, line-length c.before.before.before.before.refusal-of.result)
@@ -45,13 +45,13 @@ written : (c : tie.After-same) → take c.before.before.before.before.compose.re
 written c =
     let made = c.before.before.before.before in
     let y = made.before.before.refusal-of.result in
-    stored-front (line_of y) made.compose.ensures (omega (arith, line-length y))
+    stored_front (line_of y) made.compose.ensures (omega (arith, line-length y))
 
 returns-2 : tie.Need-returns-2
 returns-2 c =
     let call = c.before.before.before.before.before.before.before.refusal-of in
     let found = c.before.before.before.before.before.before.before.before.numbers-in.result in (
-      record { fits = subst Fits (sym call.ensures) (refusal-fits found (omega arith) (omega arith) (omega arith)); placed = line-placed call.result (omega arith) },
+      record { fits = subst Fits (sym call.ensures) (refusal_fits found (omega arith) (omega arith) (omega arith)); placed = line_placed call.result (omega arith) },
       sym (written c.before) ∙ c.before.same.ensures.0 c.if2.true,
     )
 

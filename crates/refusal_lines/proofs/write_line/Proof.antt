@@ -5,7 +5,7 @@ use native.Mathlib.Omega.{arith}
 use mathlib.Core.List.{List}
 use borrow.Author.Rules.{rules}
 use lib.ListN.{length, length-take}
-use Rattle.decimals.specs.Stored.{Stored, stored-front, stored-start}
+use Rattle.decimals.specs.Stored.{Stored, stored_front, stored_start}
 use Rattle.refusal_lines.specs.Line.{line_of}
 use Rattle.refusal_lines.specs.Laws.{line-length}
 use Rattle.refusal_lines.proofs.write_line.Statement.{statement}
@@ -40,9 +40,9 @@ returns-2 c =
     let put = c.before.before.put in
     let h : length line ≤ length a.out.now = omega arith in
     let n : made.result ≡ length line = omega arith in
-    let same = stored-front line made.ensures (omega (arith, line-length a.refusal)) in
+    let same = stored_front line made.ensures (omega (arith, line-length a.refusal)) in
     let stored = subst (λ (part : List ℕ). Stored a.out.now 0 part put.result put.new.1.0) same put.ensures in
-    (h, n, rw n (stored-start line stored h))
+    (h, n, rw n (stored_start line stored h))
 
 pub write-line-spec : {M : Type 1} → statement M
 write-line-spec =

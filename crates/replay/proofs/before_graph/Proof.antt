@@ -1,7 +1,7 @@
 -- `replay::before_graph` is safe, ends and stops at a record of the script.
 use Prim.Native.Nat.{◌-◌}
-use Rattle.replay.specs.Places.{record-from}
-use Rattle.script.specs.Words.{wordCount}
+use Rattle.replay.specs.Places.{record_from}
+use Rattle.script.specs.Words.{word_count}
 use borrow.Author.Rules.{rules}
 use native.Mathlib.Omega.{arith}
 use Rattle.replay.proofs.before_graph.Statement.{statement}
@@ -13,7 +13,7 @@ invariant-loop calls at₀ at =
 
 abbrev decreases-loop : tie.decreases-loop
 decreases-loop calls at₀ at =
-    wordCount calls - at
+    word_count calls - at
 
 loop-holds : tie.Need-loop-init invariant-loop decreases-loop
 loop-holds c = tt
@@ -25,22 +25,22 @@ enum-known-r : tie.Need-enum-known-r invariant-loop decreases-loop
 enum-known-r c = search rules
 
 add_at : tie.Need-overflow-add-at invariant-loop decreases-loop
-add_at c = let h = rw c.before.before.r.given.1 at (record-from _ _ _ c.before.before.before.before.record-at.ensures) in omega arith
+add_at c = let h = rw c.before.before.r.given.1 at (record_from _ _ _ c.before.before.before.before.record-at.ensures) in omega arith
 
 without-graph-requires : tie.Need-without-graph-requires invariant-loop decreases-loop
-without-graph-requires c κs = (rw c.before.before.r.given.1 at (record-from _ _ _ c.before.before.before.before.record-at.ensures)).1
+without-graph-requires c κs = (rw c.before.before.r.given.1 at (record_from _ _ _ c.before.before.before.before.record-at.ensures)).1
 
 enum_told : tie.Need-enum-told invariant-loop decreases-loop
 enum_told c = search rules
 
 returns : tie.Need-returns invariant-loop decreases-loop
-returns c = let h = rw c.before.before.before.before.before.r.given.1 at (record-from _ _ _ c.before.before.before.before.before.before.before.record-at.ensures) in (omega (arith, h), h.1)
+returns c = let h = rw c.before.before.before.before.before.r.given.1 at (record_from _ _ _ c.before.before.before.before.before.before.before.record-at.ensures) in (omega (arith, h), h.1)
 
 enum-told-2 : tie.Need-enum-told-2 invariant-loop decreases-loop
 enum-told-2 c = search rules
 
 loop-less : tie.Need-loop-smaller invariant-loop decreases-loop
-loop-less c = let h = rw c.before.before.before.before.before.r.given.1 at (record-from _ _ _ c.before.before.before.before.before.before.before.record-at.ensures) in omega (arith, h)
+loop-less c = let h = rw c.before.before.before.before.before.r.given.1 at (record_from _ _ _ c.before.before.before.before.before.before.before.record-at.ensures) in omega (arith, h)
 
 loop-again : tie.Need-loop-preserved invariant-loop decreases-loop
 loop-again c = tt

@@ -1,5 +1,5 @@
 -- `replay::replay` is safe and ends: each graph stands further on.
-use Rattle.replay.specs.Places.{Behind, behind-from, ahead, fewer-ahead}
+use Rattle.replay.specs.Places.{Behind, behind_from, ahead, fewer_ahead}
 use borrow.Author.Rules.{rules}
 use native.Mathlib.Omega.{arith}
 use Rattle.replay.proofs.replay.Statement.{statement}
@@ -26,10 +26,10 @@ with-graph-requires : tie.Need-with-graph-requires invariant-loop decreases-loop
 with-graph-requires c κs = (rw c.before.stop.given.1 at c.before.before.before.loop.invariant).1
 
 loop-less : tie.Need-loop-smaller invariant-loop decreases-loop
-loop-less c = let h = rw c.before.before.stop.given.1 at c.before.before.before.before.loop.invariant in rw c.before.before.stop.given.1 (fewer-ahead c.before.before.before.before.before.before.before.args.calls.now c.before.before.stop.given.0.0 c.with-graph.result h.1 c.with-graph.ensures)
+loop-less c = let h = rw c.before.before.stop.given.1 at c.before.before.before.before.loop.invariant in rw c.before.before.stop.given.1 (fewer_ahead c.before.before.before.before.before.before.before.args.calls.now c.before.before.stop.given.0.0 c.with-graph.result h.1 c.with-graph.ensures)
 
 loop-again : tie.Need-loop-preserved invariant-loop decreases-loop
-loop-again c = behind-from c.before.before.before.before.before.before.before.args.calls.now _ 0 c.with-graph.result (omega arith) c.with-graph.ensures
+loop-again c = behind_from c.before.before.before.before.before.before.before.args.calls.now _ 0 c.with-graph.result (omega arith) c.with-graph.ensures
 
 returns : tie.Need-returns invariant-loop decreases-loop
 returns c = tt

@@ -1,9 +1,9 @@
 -- `replay_graph::build` meets its contract: what is lent to the builder are the slices of the script.
 use mathlib.Core.Path.{ap, ◌∙◌}
 use native.Mathlib.Omega.{arith}
-use Rattle.fst.specs.Answer.{graph_of, buildOf}
-use Rattle.replay_graph.specs.Slices.{lent_length, lent-holds}
-use Rattle.replay_graph.specs.Tries.{triedBy}
+use Rattle.fst.specs.Answer.{graph_of, build_of}
+use Rattle.replay_graph.specs.Slices.{lent_length, lent_holds}
+use Rattle.replay_graph.specs.Tries.{tried_by}
 use borrow.Author.Rules.{rules}
 use Rattle.replay_graph.proofs.build.Statement.{statement}
 use Rattle.replay_graph.proofs.build.Tie as tie
@@ -111,7 +111,7 @@ say-built-requires : tie.Need-say-built-requires
 say-built-requires c κs = search rules
 
 returns : tie.Need-returns
-returns c = let g = c.before.before.before.before.before.before.before.before.before.before.before.before.before.before.before.before.before.before.before.before.before.before.before.before.before.before.before.args.g in c.say-built.ensures ∙ ap triedBy (c.before.build.ensures ∙ λ i. buildOf (graph_of (lent-holds c.before.before.before.before.before.before.before.before.before.before.before.before.before.before.before.before.before.count_of.ensures c.before.before.before.before.before.before.before.before.before.before.before.before.before.before.before.before.before.before.before.before.before.before.before.before.offsets-of.ensures i) (lent-holds c.before.before.before.before.before.before.before.before.before.before.before.before.before.before.before.count-of2.ensures c.before.before.before.before.before.before.before.before.before.before.before.before.before.before.before.before.before.before.before.before.before.before.before.labels-of.ensures i) (lent-holds c.before.before.before.before.before.before.before.before.before.before.before.before.before.count-of3.ensures c.before.before.before.before.before.before.before.before.before.before.before.before.before.before.before.before.before.before.before.before.before.before.labels-of2.ensures i) (lent-holds c.before.before.before.before.before.before.before.before.before.before.before.count-of4.ensures c.before.before.before.before.before.before.before.before.before.before.before.before.before.before.before.before.before.before.before.before.before.weights-of.ensures i) (lent-holds c.before.before.before.before.before.before.before.before.before.count-of5.ensures c.before.before.before.before.before.before.before.before.before.before.before.before.before.before.before.before.before.before.before.before.nextstates-of.ensures i) (lent-holds c.before.before.before.before.before.before.before.count-of6.ensures c.before.before.before.before.before.before.before.before.before.before.before.before.before.before.before.before.before.before.before.before.before.before.before.before.before.finals-of.ensures i) (lent-holds c.before.before.before.before.before.count-of7.ensures c.before.before.before.before.before.before.before.before.before.before.before.before.before.before.before.before.before.before.before.tids-of.ensures i) (lent-holds c.before.before.before.count-of8.ensures c.before.before.before.before.before.before.before.before.before.before.before.before.before.before.before.before.before.before.tids-of2.ensures i) g.start g.pdfs))
+returns c = let g = c.before.before.before.before.before.before.before.before.before.before.before.before.before.before.before.before.before.before.before.before.before.before.before.before.before.before.before.args.g in c.say-built.ensures ∙ ap tried_by (c.before.build.ensures ∙ λ i. build_of (graph_of (lent_holds c.before.before.before.before.before.before.before.before.before.before.before.before.before.before.before.before.before.count_of.ensures c.before.before.before.before.before.before.before.before.before.before.before.before.before.before.before.before.before.before.before.before.before.before.before.before.offsets-of.ensures i) (lent_holds c.before.before.before.before.before.before.before.before.before.before.before.before.before.before.before.count-of2.ensures c.before.before.before.before.before.before.before.before.before.before.before.before.before.before.before.before.before.before.before.before.before.before.before.labels-of.ensures i) (lent_holds c.before.before.before.before.before.before.before.before.before.before.before.before.before.count-of3.ensures c.before.before.before.before.before.before.before.before.before.before.before.before.before.before.before.before.before.before.before.before.before.before.labels-of2.ensures i) (lent_holds c.before.before.before.before.before.before.before.before.before.before.before.count-of4.ensures c.before.before.before.before.before.before.before.before.before.before.before.before.before.before.before.before.before.before.before.before.before.weights-of.ensures i) (lent_holds c.before.before.before.before.before.before.before.before.before.count-of5.ensures c.before.before.before.before.before.before.before.before.before.before.before.before.before.before.before.before.before.before.before.before.nextstates-of.ensures i) (lent_holds c.before.before.before.before.before.before.before.count-of6.ensures c.before.before.before.before.before.before.before.before.before.before.before.before.before.before.before.before.before.before.before.before.before.before.before.before.before.finals-of.ensures i) (lent_holds c.before.before.before.before.before.count-of7.ensures c.before.before.before.before.before.before.before.before.before.before.before.before.before.before.before.before.before.before.before.tids-of.ensures i) (lent_holds c.before.before.before.count-of8.ensures c.before.before.before.before.before.before.before.before.before.before.before.before.before.before.before.before.before.before.tids-of2.ensures i) g.start g.pdfs))
 
 pub build-spec : {M : Type 1} → statement M
 build-spec =

@@ -1,6 +1,6 @@
 -- `replay_payloads::asked` meets its contract.
 use borrow.Author.Tests.{lt-ltb, le-ltb}
-use Rattle.replay_payloads.specs.Payloads.{askedFor}
+use Rattle.replay_payloads.specs.Payloads.{asked_for}
 use borrow.Author.Rules.{rules}
 use Rattle.replay_payloads.proofs.asked.Statement.{statement}
 use Rattle.replay_payloads.proofs.asked.Tie as tie
@@ -15,11 +15,11 @@ cast-result : tie.Need-overflow-cast-result
 cast-result c = search rules
 
 returns : tie.Need-returns
-unfolding askedFor
+unfolding asked_for
 returns c = simp (lt-ltb _ _ c.before.before.if1.true) c.word_at.ensures
 
 returns-2 : tie.Need-returns-2
-unfolding askedFor
+unfolding asked_for
 returns-2 c = simp (le-ltb _ _ c.if1.false)
 
 pub asked-spec : {M : Type 1} → statement M

@@ -3,7 +3,7 @@ use mathlib.Core.Path.{sym}
 use native.Mathlib.Nat.{mul-le-mul}
 use native.Mathlib.Omega.{arith}
 use borrow.Author.Tests.{le-leb, lt-leb}
-use Rattle.replay_payloads.specs.Lent.{listFits}
+use Rattle.replay_payloads.specs.Lent.{list_fits}
 use borrow.Author.Rules.{rules}
 use Rattle.replay_payloads.proofs.list_fits.Statement.{statement}
 use Rattle.replay_payloads.proofs.list_fits.Tie as tie
@@ -24,28 +24,28 @@ mul-if1 : tie.Need-overflow-mul-if1
 mul-if1 c = record { fits = let z = mul-le-mul {n₁ = c.least.result} {m₁ = c.before.before.before.before.args.used} {n₂ = 64} {m₂ = 4_294_967_295} c.least.ensures.1 (omega (arith, c.before.before.before.before.requires.1)) in omega (arith, z) }
 
 returns : tie.Need-returns
-unfolding listFits
+unfolding list_fits
 returns c = simp (sym c.before.before.word_at.ensures, sym c.before.least.ensures.0, le-leb _ _ c.if1.true)
 
 asked-requires : tie.Need-asked-requires
 asked-requires c κs = search rules
 
 returns-2 : tie.Need-returns-2
-unfolding listFits
+unfolding list_fits
 returns-2 c = simp (sym c.before.before.before.before.word_at.ensures, sym c.before.before.before.least.ensures.0, lt-leb _ _ c.before.before.if1.false, sym c.before.asked.ensures, lt-leb _ _ c.if2.true)
 
 asked-requires-2 : tie.Need-asked-requires-2
 asked-requires-2 c κs = search rules
 
 returns-3 : tie.Need-returns-3
-unfolding listFits
+unfolding list_fits
 returns-3 c = simp (sym c.before.before.before.before.before.before.word_at.ensures, sym c.before.before.before.before.before.least.ensures.0, lt-leb _ _ c.before.before.before.before.if1.false, sym c.before.before.before.asked.ensures, le-leb _ _ c.before.before.if2.false, sym c.before.asked2.ensures, lt-leb _ _ c.if3.true)
 
 asked-requires-3 : tie.Need-asked-requires-3
 asked-requires-3 c κs = search rules
 
 returns-4 : tie.Need-returns-4
-unfolding listFits
+unfolding list_fits
 returns-4 c = simp (sym c.before.before.before.before.before.before.before.word_at.ensures, sym c.before.before.before.before.before.before.least.ensures.0, lt-leb _ _ c.before.before.before.before.before.if1.false, sym c.before.before.before.before.asked.ensures, le-leb _ _ c.before.before.before.if2.false, sym c.before.before.asked2.ensures, le-leb _ _ c.before.if3.false, sym c.asked3.ensures)
 
 pub list-fits-spec : {M : Type 1} → statement M

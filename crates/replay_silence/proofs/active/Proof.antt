@@ -3,7 +3,7 @@ use mathlib.Core.Path.{sym}
 use native.Mathlib.Omega.{arith}
 use borrow.Author.Tests.{not-false}
 use lib.Seq.{length-take-le}
-use Rattle.script.specs.Words.{filled-room}
+use Rattle.script.specs.Words.{filled_room}
 use borrow.Author.Rules.{rules}
 use Rattle.replay_silence.proofs.active.Statement.{statement}
 use Rattle.replay_silence.proofs.active.Tie as tie
@@ -21,10 +21,10 @@ returns : tie.Need-returns
 returns c = search rules
 
 array-share-prefix-silence : tie.Need-array-share-prefix-silence
-array-share-prefix-silence c = omega (arith, filled-room c.before.before.before.fill-i32.ensures (not-false _ c.before.if1.false), c.before.before.before.fill-i32.auto.1.1.0)
+array-share-prefix-silence c = omega (arith, filled_room c.before.before.before.fill-i32.ensures (not-false _ c.before.if1.false), c.before.before.before.fill-i32.auto.1.1.0)
 
 slice-aggregate-active : tie.Need-slice-aggregate-active
-slice-aggregate-active c = sym (length-take-le _ _ (omega (arith, filled-room c.before.before.before.before.fill-i32.ensures (not-false _ c.before.before.if1.false), c.before.before.before.before.fill-i32.auto.1.1.0)))
+slice-aggregate-active c = sym (length-take-le _ _ (omega (arith, filled_room c.before.before.before.before.fill-i32.ensures (not-false _ c.before.before.if1.false), c.before.before.before.before.fill-i32.auto.1.1.0)))
 
 active-requires : tie.Need-active-requires
 active-requires c κs = search rules

@@ -3,7 +3,7 @@ use mathlib.Core.Path.{sym}
 use native.Mathlib.Omega.{arith}
 use borrow.Author.Tests.{not-false}
 use lib.Seq.{length-take-le}
-use Rattle.script.specs.Words.{filled-room}
+use Rattle.script.specs.Words.{filled_room}
 use borrow.Author.Rules.{rules}
 use Rattle.replay_silence.proofs.count_trailing.Statement.{statement}
 use Rattle.replay_silence.proofs.count_trailing.Tie as tie
@@ -42,10 +42,10 @@ fill-segments-requires : tie.Need-fill-segments-requires
 fill-segments-requires c κs = search rules
 
 array-share-prefix-silence : tie.Need-array-share-prefix-silence
-array-share-prefix-silence c = omega (arith, filled-room c.before.before.before.before.before.before.before.before.before.before.fill-i32.ensures (not-false _ c.before.before.before.before.before.before.before.before.if1.false), c.before.before.before.before.before.before.before.before.before.before.fill-i32.auto.1.1.0)
+array-share-prefix-silence c = omega (arith, filled_room c.before.before.before.before.before.before.before.before.before.before.fill-i32.ensures (not-false _ c.before.before.before.before.before.before.before.before.if1.false), c.before.before.before.before.before.before.before.before.before.before.fill-i32.auto.1.1.0)
 
 slice-aggregate-trailing-silence-frames : tie.Need-slice-aggregate-trailing-silence-frames
-slice-aggregate-trailing-silence-frames c = sym (length-take-le _ _ (omega (arith, filled-room c.before.before.before.before.before.before.before.before.before.before.before.fill-i32.ensures (not-false _ c.before.before.before.before.before.before.before.before.before.if1.false), c.before.before.before.before.before.before.before.before.before.before.before.fill-i32.auto.1.1.0)))
+slice-aggregate-trailing-silence-frames c = sym (length-take-le _ _ (omega (arith, filled_room c.before.before.before.before.before.before.before.before.before.before.before.fill-i32.ensures (not-false _ c.before.before.before.before.before.before.before.before.before.if1.false), c.before.before.before.before.before.before.before.before.before.before.before.fill-i32.auto.1.1.0)))
 
 array-share-prefix-phones : tie.Need-array-share-prefix-phones
 array-share-prefix-phones c = search rules

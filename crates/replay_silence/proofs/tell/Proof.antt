@@ -3,7 +3,7 @@ use mathlib.Core.Path.{sym}
 use native.Mathlib.Omega.{arith}
 use borrow.Author.Tests.{not-false}
 use lib.Seq.{length-take-le}
-use Rattle.script.specs.Words.{filled-room}
+use Rattle.script.specs.Words.{filled_room}
 use borrow.Author.Rules.{rules}
 use Rattle.replay_silence.proofs.tell.Statement.{statement}
 use Rattle.replay_silence.proofs.tell.Tie as tie
@@ -39,10 +39,10 @@ least-requires : tie.Need-least-requires
 least-requires c κs = search rules
 
 array-share-prefix-silence : tie.Need-array-share-prefix-silence
-array-share-prefix-silence c = omega (arith, filled-room c.before.before.before.before.before.before.before.before.before.before.before.fill-i32.ensures (not-false _ c.before.before.before.before.before.before.before.before.before.if1.false), c.before.before.before.before.before.before.before.before.before.before.before.fill-i32.auto.1.1.0)
+array-share-prefix-silence c = omega (arith, filled_room c.before.before.before.before.before.before.before.before.before.before.before.fill-i32.ensures (not-false _ c.before.before.before.before.before.before.before.before.before.if1.false), c.before.before.before.before.before.before.before.before.before.before.before.fill-i32.auto.1.1.0)
 
 slice-aggregate-compute-current-traceback : tie.Need-slice-aggregate-compute-current-traceback
-slice-aggregate-compute-current-traceback c = sym (length-take-le _ _ (omega (arith, filled-room c.before.before.before.before.before.before.before.before.before.before.before.before.fill-i32.ensures (not-false _ c.before.before.before.before.before.before.before.before.before.before.if1.false), c.before.before.before.before.before.before.before.before.before.before.before.before.fill-i32.auto.1.1.0)))
+slice-aggregate-compute-current-traceback c = sym (length-take-le _ _ (omega (arith, filled_room c.before.before.before.before.before.before.before.before.before.before.before.before.fill-i32.ensures (not-false _ c.before.before.before.before.before.before.before.before.before.before.if1.false), c.before.before.before.before.before.before.before.before.before.before.before.before.fill-i32.auto.1.1.0)))
 
 array-share-prefix-phones : tie.Need-array-share-prefix-phones
 array-share-prefix-phones c = search rules

@@ -1,5 +1,5 @@
 -- `replay_silence::weigh` meets its contract: what is lent lies within the slices, and the differences within what is lent.
-use Rattle.replay_silence.proofs.Within.{deltas-within}
+use Rattle.replay_silence.proofs.Within.{deltas_within}
 use mathlib.Core.Path.{sym}
 use native.Mathlib.Omega.{arith}
 use lib.Seq.{length-take-le}
@@ -50,7 +50,7 @@ same-length-4 : tie.Need-same-length-4
 same-length-4 c = search rules
 
 returns : tie.Need-returns
-returns c = deltas-within _ _ _ _ _ c.before.before.before.before.before.before.before.before.get-delta-weights.result c.before.before.before.before.before.before.before.before.before.before.before.before.before.before.before.before.before.before.before.args.lent c.before.before.before.before.before.before.before.before.get-delta-weights.ensures (length-take-le _ _ c.before.before.before.before.before.before.before.before.before.before.before.before.before.before.before.before.before.before.before.requires.2)
+returns c = deltas_within _ _ _ _ _ c.before.before.before.before.before.before.before.before.get-delta-weights.result c.before.before.before.before.before.before.before.before.before.before.before.before.before.before.before.before.before.before.before.args.lent c.before.before.before.before.before.before.before.before.get-delta-weights.ensures (length-take-le _ _ c.before.before.before.before.before.before.before.before.before.before.before.before.before.before.before.before.before.before.before.requires.2)
 
 pub weigh-spec : {M : Type 1} → statement M
 weigh-spec =

@@ -3,8 +3,8 @@ use mathlib.Core.Path.{◌≡◌, sym, ◌∙◌}
 use Prim.Native.Nat.{◌+◌, ◌-◌, ◌≤◌}
 use native.Mathlib.Omega.{arith}
 use borrow.Author.Rules.{rules}
-use Rattle.script.specs.Words.{wordCount}
-use Rattle.script.specs.Records.{whole-within}
+use Rattle.script.specs.Words.{word_count}
+use Rattle.script.specs.Records.{whole_within}
 use Rattle.replay_stateless.proofs.replay.Statement.{statement}
 use Rattle.replay_stateless.proofs.replay.Tie as tie
 
@@ -12,7 +12,7 @@ abbrev invariant-loop : tie.invariant-loop
 invariant-loop bytes at₀ at = Unit {0}
 
 abbrev decreases-loop : tie.decreases-loop
-decreases-loop bytes at₀ at = wordCount bytes - at
+decreases-loop bytes at₀ at = word_count bytes - at
 
 loop-holds : tie.Need-loop-init invariant-loop decreases-loop
 loop-holds c = tt
@@ -25,9 +25,9 @@ enum-known-r c = search rules
 
 -- a whole record lies within the words, past its header
 record-here : (c : tie.After-struct-known invariant-loop decreases-loop)
-    → (c.before.before.r.given.0.0.start ≡ c.before.before.before.before.before.loop.at + 2) × (c.before.before.r.given.0.0.start + c.before.before.r.given.0.0.count ≤ wordCount c.before.before.before.before.before.before.before.args.bytes.now)
+    → (c.before.before.r.given.0.0.start ≡ c.before.before.before.before.before.loop.at + 2) × (c.before.before.r.given.0.0.start + c.before.before.r.given.0.0.count ≤ word_count c.before.before.before.before.before.before.before.args.bytes.now)
 record-here c =
-    whole-within c.before.before.before.before.before.before.before.args.bytes.now c.before.before.before.before.before.loop.at c.before.before.r.given.0.0 (sym c.before.before.r.given.1 ∙ c.before.before.before.before.record-at.ensures)
+    whole_within c.before.before.before.before.before.before.before.args.bytes.now c.before.before.before.before.before.loop.at c.before.before.r.given.0.0 (sym c.before.before.r.given.1 ∙ c.before.before.before.before.record-at.ensures)
 
 add_at : tie.Need-overflow-add-at invariant-loop decreases-loop
 add_at c = let h = record-here c in omega arith

@@ -2,7 +2,7 @@
 use Prim.Native.Nat.{◌≤◌, ◌-◌}
 use mathlib.Core.Path.{◌≡◌, refl, ◌∙◌}
 use lib.ListN.{length}
-use Rattle.routes.specs.Counts.{Counts, counts-none}
+use Rattle.routes.specs.Counts.{Counts, counts_none}
 use borrow.Author.Rules.{rules}
 use native.Mathlib.Omega.{arith}
 use Rattle.routes.proofs.fill_counts.Statement.{statement}
@@ -17,7 +17,7 @@ decreases-loop records labels used history-counts₀ k₀ history-counts k =
     used - k
 
 loop-holds : tie.Need-loop-init invariant-loop decreases-loop
-loop-holds c = (omega arith, refl, counts-none c.before.before.requires.1)
+loop-holds c = (omega arith, refl, counts_none c.before.before.requires.1)
 
 put-count-requires : tie.Need-put-count-requires invariant-loop decreases-loop
 put-count-requires c κs = (c.before.before.before.before.before.requires.0, c.before.loop-test.true, c.before.before.loop.invariant.2)

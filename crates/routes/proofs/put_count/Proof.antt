@@ -2,7 +2,7 @@
 use mathlib.Core.Path.{◌∙◌}
 use native.Mathlib.Omega.{arith}
 use Rattle.model.specs.Ints.{back}
-use Rattle.routes.specs.Counts.{prev-counted, counts-more}
+use Rattle.routes.specs.Counts.{prev_counted, counts_more}
 use borrow.Author.Rules.{rules}
 use Rattle.routes.proofs.put_count.Statement.{statement}
 use Rattle.routes.proofs.put_count.Tie as tie
@@ -20,10 +20,10 @@ word-of-requires : tie.Need-word-of-requires
 word-of-requires c κs = search rules
 
 count-at-requires : tie.Need-count-at-requires
-count-at-requires c κs = let p = prev-counted c.before.before.before.before.before.requires.0 c.before.before.before.before.before.requires.1 c.before.before.before.before.before.requires.2 (omega arith) c.before.before.prev-of.ensures in (p.1, p.2)
+count-at-requires c κs = let p = prev_counted c.before.before.before.before.before.requires.0 c.before.before.before.before.before.requires.1 c.before.before.before.before.before.requires.2 (omega arith) c.before.before.prev-of.ensures in (p.1, p.2)
 
 count-over-requires : tie.Need-count-over-requires
-count-over-requires c κs = let p = prev-counted c.before.before.before.before.before.before.requires.0 c.before.before.before.before.before.before.requires.1 c.before.before.before.before.before.before.requires.2 (omega arith) c.before.before.before.prev-of.ensures in
+count-over-requires c κs = let p = prev_counted c.before.before.before.before.before.before.requires.0 c.before.before.before.before.before.before.requires.1 c.before.before.before.before.before.before.requires.2 (omega arith) c.before.before.before.prev-of.ensures in
     omega (arith, p.0, p.2, c.before.before.before.before.before.before.requires.0.few)
 
 cast-history-counts : tie.Need-overflow-cast-history-counts
@@ -39,7 +39,7 @@ same_length : tie.Need-same-length
 same_length c = search rules
 
 returns : tie.Need-returns
-returns c = counts-more c.before.before.before.before.before.before.before.requires.0 c.before.before.before.before.before.before.before.requires.1 c.before.before.before.before.before.before.before.requires.2 (omega arith) c.before.before.before.before.prev-of.ensures (back c.before.before.before.word_of.result c.before.before.before.word_of.type-inv ∙ c.before.before.before.word_of.ensures) c.before.count_at.ensures c.count-over.ensures
+returns c = counts_more c.before.before.before.before.before.before.before.requires.0 c.before.before.before.before.before.before.before.requires.1 c.before.before.before.before.before.before.before.requires.2 (omega arith) c.before.before.before.before.prev-of.ensures (back c.before.before.before.word_of.result c.before.before.before.word_of.type-inv ∙ c.before.before.before.word_of.ensures) c.before.count_at.ensures c.count-over.ensures
 
 pub put-count-spec : {M : Type 1} → statement M
 put-count-spec =

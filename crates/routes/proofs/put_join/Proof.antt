@@ -1,13 +1,13 @@
 -- By whether there is a join.
 use mathlib.Core.Path.{refl}
 use native.Mathlib.Omega.{arith}
-use Rattle.routes.specs.Entries.{noJoin, aJoin}
+use Rattle.routes.specs.Entries.{no_join, a_join}
 use borrow.Author.Rules.{rules}
 use Rattle.routes.proofs.put_join.Statement.{statement}
 use Rattle.routes.proofs.put_join.Tie as tie
 
 returns : tie.Need-returns
-returns c = noJoin c.if1.true refl refl
+returns c = no_join c.if1.true refl refl
 
 mul-route : tie.Need-overflow-mul-route
 mul-route c = let l = c.before.requires (omega (arith, c.if1.false)) in search rules
@@ -22,7 +22,7 @@ same_length : tie.Need-same-length
 same_length c = search rules
 
 returns-2 : tie.Need-returns-2
-returns-2 c = aJoin (omega (arith, c.if1.false)) refl refl
+returns-2 c = a_join (omega (arith, c.if1.false)) refl refl
 
 pub put-join-spec : {M : Type 1} → statement M
 put-join-spec =

@@ -1,8 +1,8 @@
 -- What is written, and the words from the cursor down, which are still to come.
 use native.Mathlib.Omega.{arith}
 use Rattle.model.specs.Ints.{back}
-use Rattle.routes.specs.Skips.{skip-room, skip-low, skip-next}
-use Rattle.routes.specs.Written.{Writing, writing-none, writing-low, writing-next, writing-end}
+use Rattle.routes.specs.Skips.{skip_room, skip_low, skip_next}
+use Rattle.routes.specs.Written.{Writing, writing_none, writing_low, writing_next, writing_end}
 use borrow.Author.Rules.{rules}
 use Rattle.routes.proofs.write_words.Statement.{statement}
 use Rattle.routes.proofs.write_words.Tie as tie
@@ -16,22 +16,22 @@ decreases-loop records labels route used history-skips link n words₀ r₀ k₀
     k
 
 loop-holds : tie.Need-loop-init invariant-loop decreases-loop
-loop-holds c = writing-none c.before.before.before.requires.2 c.before.before.before.requires.3
+loop-holds c = writing_none c.before.before.before.requires.2 c.before.before.before.requires.3
 
 skip-at-requires : tie.Need-skip-at-requires invariant-loop decreases-loop
-skip-at-requires c κs = let low = c.before.loop.invariant.low in skip-room c.before.before.before.before.before.requires.4 (omega (arith, c.before.before.before.before.before.requires.1))
+skip-at-requires c κs = let low = c.before.loop.invariant.low in skip_room c.before.before.before.before.before.requires.4 (omega (arith, c.before.before.before.before.before.requires.1))
 
 next-on-requires : tie.Need-next-on-requires invariant-loop decreases-loop
-next-on-requires c κs = let low = c.before.before.loop.invariant.low in (c.before.before.before.before.before.before.requires.0, skip-low c.before.before.before.before.before.before.requires.4 (omega (arith, c.before.before.before.before.before.before.requires.1)) c.skip_at.ensures)
+next-on-requires c κs = let low = c.before.before.loop.invariant.low in (c.before.before.before.before.before.before.requires.0, skip_low c.before.before.before.before.before.before.requires.4 (omega (arith, c.before.before.before.before.before.before.requires.1)) c.skip_at.ensures)
 
 sub-k : tie.Need-overflow-sub-k invariant-loop decreases-loop
 sub-k c = search rules
 
 mul-word : tie.Need-overflow-mul-word invariant-loop decreases-loop
-mul-word c = let l = writing-low c.before.before.before.before.before.before.before.before.requires.2 c.before.before.before.before.before.before.before.before.requires.3 c.before.before.before.before.loop.invariant in search rules
+mul-word c = let l = writing_low c.before.before.before.before.before.before.before.before.requires.2 c.before.before.before.before.before.before.before.before.requires.3 c.before.before.before.before.loop.invariant in search rules
 
 slice-set-from-word : tie.Need-slice-set-from-word invariant-loop decreases-loop
-slice-set-from-word c = let l = writing-low c.before.before.before.before.before.before.before.before.requires.2 c.before.before.before.before.before.before.before.before.requires.3 c.before.before.before.before.loop.invariant in omega arith
+slice-set-from-word c = let l = writing_low c.before.before.before.before.before.before.before.before.requires.2 c.before.before.before.before.before.before.before.before.requires.3 c.before.before.before.before.loop.invariant in omega arith
 
 loop-less : tie.Need-loop-smaller invariant-loop decreases-loop
 loop-less c = omega arith
@@ -39,13 +39,13 @@ loop-less c = omega arith
 loop-again : tie.Need-loop-preserved invariant-loop decreases-loop
 loop-again c = let x = c.before.next-on.result in
     let low = c.before.before.before.before.loop.invariant.low in
-    rw (back x.word c.struct_told.given.0.1) (writing-next c.before.before.before.before.before.before.before.before.requires.2 c.before.before.before.before.before.before.before.before.requires.3 c.before.before.before.before.loop.invariant c.before.before.before.loop-test.true (skip-next c.before.before.before.before.before.before.before.before.requires.4 (omega (arith, c.before.before.before.before.before.before.before.before.requires.1)) c.before.before.skip_at.ensures c.before.before.before.before.before.before.before.before.requires.0 c.before.next-on.ensures))
+    rw (back x.word c.struct_told.given.0.1) (writing_next c.before.before.before.before.before.before.before.before.requires.2 c.before.before.before.before.before.before.before.before.requires.3 c.before.before.before.before.loop.invariant c.before.before.before.loop-test.true (skip_next c.before.before.before.before.before.before.before.before.requires.4 (omega (arith, c.before.before.before.before.before.before.before.before.requires.1)) c.before.before.skip_at.ensures c.before.before.before.before.before.before.before.before.requires.0 c.before.next-on.ensures))
 
 same_length : tie.Need-same-length invariant-loop decreases-loop
 same_length c = c.before.loop.invariant.long
 
 returns : tie.Need-returns invariant-loop decreases-loop
-returns c = writing-end c.before.before.before.before.before.requires.2 c.before.before.before.before.before.requires.3 c.loop-test.false c.before.loop.invariant
+returns c = writing_end c.before.before.before.before.before.requires.2 c.before.before.before.before.before.requires.3 c.loop-test.false c.before.loop.invariant
 
 pub write-words-spec : {M : Type 1} → statement M
 write-words-spec =

@@ -4,7 +4,7 @@ use borrow.Author.Rules.{rules}
 use lib.Ieee.{binary32, to_bits}
 use lib.Ieee.Compare.{differs_from_itself}
 use Rattle.lists.specs.Tests.{holds}
-use Rattle.script.proofs.Numbers.{same-as-itself}
+use Rattle.script.proofs.Numbers.{same_as_itself}
 use Rattle.script.proofs.bits_of.Statement.{statement}
 use Rattle.script.proofs.bits_of.Tie as tie
 
@@ -13,7 +13,7 @@ unfolding to_bits
 returns c = sym (ap (to_bits binary32) (differs_from_itself c.before.args.x (holds c.if1.true)))
 
 float-to-bits-result : tie.Need-float-to-bits-result
-float-to-bits-result c = same-as-itself c.before.args.x c.if1.false
+float-to-bits-result c = same_as_itself c.before.args.x c.if1.false
 
 returns-2 : tie.Need-returns-2
 returns-2 c = search rules

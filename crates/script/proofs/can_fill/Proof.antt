@@ -3,7 +3,7 @@ use Prim.Native.Nat.{◌+◌, ◌≤◌, ◌<◌}
 use native.Mathlib.Omega.{arith}
 use borrow.Author.Rules.{rules}
 use borrow.Author.Tests.{le-leb, lt-leb}
-use Rattle.script.specs.Words.{wordCount}
+use Rattle.script.specs.Words.{word_count}
 use Rattle.script.proofs.can_fill.Statement.{statement}
 use Rattle.script.proofs.can_fill.Tie as tie
 
@@ -17,21 +17,21 @@ returns-2 : tie.Need-returns-2
 returns-2 c =
     let a = c.before.before.before.before.args in
     let p : a.n ≤ a.places = omega arith in
-    let h : wordCount a.bytes.now < a.at + a.n = omega arith in
+    let h : word_count a.bytes.now < a.at + a.n = omega arith in
     simp (le-leb _ _ p, lt-leb _ _ h)
 
 returns-3 : tie.Need-returns-3
 returns-3 c =
     let a = c.before.before.before.before.before.args in
     let p : a.n ≤ a.places = omega arith in
-    let h : wordCount a.bytes.now < a.at + a.n = omega arith in
+    let h : word_count a.bytes.now < a.at + a.n = omega arith in
     simp (le-leb _ _ p, lt-leb _ _ h)
 
 returns-4 : tie.Need-returns-4
 returns-4 c =
     let a = c.before.before.before.before.before.args in
     let p : a.n ≤ a.places = omega arith in
-    let h : a.at + a.n ≤ wordCount a.bytes.now = omega arith in
+    let h : a.at + a.n ≤ word_count a.bytes.now = omega arith in
     simp (le-leb _ _ p, le-leb _ _ h)
 
 pub can-fill-spec : {M : Type 1} → statement M

@@ -2,7 +2,7 @@
 use mathlib.Core.Path.{ap, ◌∙◌}
 use Prim.Native.Nat.{ℕ}
 use mathlib.Core.List.{List}
-use Rattle.script.specs.Words.{putWord}
+use Rattle.script.specs.Words.{put_word}
 use borrow.Author.Rules.{rules}
 use Rattle.script.proofs.fault.Statement.{statement}
 use Rattle.script.proofs.fault.Tie as tie
@@ -26,12 +26,12 @@ put-word-requires-3 : tie.Need-put-word-requires-3
 put-word-requires-3 c κs = search rules
 
 returns : tie.Need-returns
-unfolding putWord
+unfolding put_word
 returns c =
     let one = c.before.before.before.before.before.before.before.put_word.ensures.written in
     let two = c.before.before.before.before.put-word2.ensures.written in
     let three = c.before.put-word3.ensures.written in
-    three ∙ ap (λ (l : List ℕ). putWord l 2 4294967295) (two ∙ ap (λ (l : List ℕ). putWord l 1 1) one)
+    three ∙ ap (λ (l : List ℕ). put_word l 2 4294967295) (two ∙ ap (λ (l : List ℕ). put_word l 1 1) one)
 
 pub fault-spec : {M : Type 1} → statement M
 fault-spec =

@@ -5,7 +5,7 @@ use native.Mathlib.Omega.{arith}
 use borrow.Author.Rules.{rules}
 use borrow.Author.Tests.{not-true, not-false}
 use lib.Ieee.{nan, binary32, of_bits}
-use Rattle.script.proofs.Fill.{Filling, filling-none, filling-more, filled, not-filled}
+use Rattle.script.proofs.Fill.{Filling, filling_none, filling_more, filled, not_filled}
 use Rattle.script.proofs.fill_f32.Statement.{statement}
 use Rattle.script.proofs.fill_f32.Tie as tie
 
@@ -22,13 +22,13 @@ returns : tie.Need-returns invariant-loop decreases-loop
 returns c =
     let a = c.before.before.before.before.args in
     let call = c.before.can-fill in
-    not-filled (of_bits binary32) a.bytes.now a.at a.n a.out.now (sym call.ensures ∙ not-true call.result c.if1.true)
+    not_filled (of_bits binary32) a.bytes.now a.at a.n a.out.now (sym call.ensures ∙ not-true call.result c.if1.true)
 
 loop-holds : tie.Need-loop-init invariant-loop decreases-loop
 loop-holds c =
     let a = c.before.before.before.before.args in
     let call = c.before.can-fill in
-    filling-none (of_bits binary32) a.bytes.now a.at a.n a.out.now (sym call.ensures ∙ not-false call.result c.if1.false)
+    filling_none (of_bits binary32) a.bytes.now a.at a.n a.out.now (sym call.ensures ∙ not-false call.result c.if1.false)
 
 add-word-at : tie.Need-overflow-add-word-at invariant-loop decreases-loop
 add-word-at c = omega arith
@@ -55,7 +55,7 @@ loop-again : tie.Need-loop-preserved invariant-loop decreases-loop
 loop-again c =
     let a = c.before.before.before.before.before.before.before.before.args in
     let l = c.before.before.before.loop in
-    filling-more (of_bits binary32) a.bytes.now a.at a.n a.out.now nan c.float_of.result l.out l.i l.invariant c.before.before.loop-test.true (c.float_of.ensures ∙ ap (of_bits binary32) c.before.word_at.ensures)
+    filling_more (of_bits binary32) a.bytes.now a.at a.n a.out.now nan c.float_of.result l.out l.i l.invariant c.before.before.loop-test.true (c.float_of.ensures ∙ ap (of_bits binary32) c.before.word_at.ensures)
 
 same_length : tie.Need-same-length invariant-loop decreases-loop
 same_length c = c.before.loop.invariant.as_long

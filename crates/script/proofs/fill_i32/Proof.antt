@@ -8,7 +8,7 @@ use lib.IntN.{pos}
 use mir.Syntax.{w32}
 use mir.Val.{to_z, of_z}
 use mir.ValLaws.{to_z-of_z}
-use Rattle.script.proofs.Fill.{Filling, filling-none, filling-more, filled, not-filled}
+use Rattle.script.proofs.Fill.{Filling, filling_none, filling_more, filled, not_filled}
 use Rattle.script.proofs.fill_i32.Statement.{statement}
 use Rattle.script.proofs.fill_i32.Tie as tie
 
@@ -25,13 +25,13 @@ returns : tie.Need-returns invariant-loop decreases-loop
 returns c =
     let a = c.before.before.before.args in
     let call = c.before.can-fill in
-    not-filled (to_z w32) a.bytes.now a.at a.n a.out.now (sym call.ensures ∙ not-true call.result c.if1.true)
+    not_filled (to_z w32) a.bytes.now a.at a.n a.out.now (sym call.ensures ∙ not-true call.result c.if1.true)
 
 loop-holds : tie.Need-loop-init invariant-loop decreases-loop
 loop-holds c =
     let a = c.before.before.before.args in
     let call = c.before.can-fill in
-    filling-none (to_z w32) a.bytes.now a.at a.n a.out.now (sym call.ensures ∙ not-false call.result c.if1.false)
+    filling_none (to_z w32) a.bytes.now a.at a.n a.out.now (sym call.ensures ∙ not-false call.result c.if1.false)
 
 add-word-at : tie.Need-overflow-add-word-at invariant-loop decreases-loop
 add-word-at c = omega arith
@@ -58,7 +58,7 @@ loop-again : tie.Need-loop-preserved invariant-loop decreases-loop
 loop-again c =
     let a = c.before.before.before.before.before.before.before.args in
     let l = c.before.before.before.loop in
-    filling-more (to_z w32) a.bytes.now a.at a.n a.out.now (pos 0) (to_z w32 (of_z w32 c.Int-of.result)) l.out l.i l.invariant c.before.before.loop-test.true (to_z-of_z w32 c.Int-of.result (record { sfits = c.Int-of.type-inv }) ∙ c.Int-of.ensures ∙ ap (to_z w32) c.before.word_at.ensures)
+    filling_more (to_z w32) a.bytes.now a.at a.n a.out.now (pos 0) (to_z w32 (of_z w32 c.Int-of.result)) l.out l.i l.invariant c.before.before.loop-test.true (to_z-of_z w32 c.Int-of.result (record { sfits = c.Int-of.type-inv }) ∙ c.Int-of.ensures ∙ ap (to_z w32) c.before.word_at.ensures)
 
 same_length : tie.Need-same-length invariant-loop decreases-loop
 same_length c = c.before.loop.invariant.as_long

@@ -4,7 +4,7 @@ use Prim.Native.Nat.{◌-◌}
 use native.Mathlib.Omega.{arith}
 use borrow.Author.Rules.{rules}
 use borrow.Author.Tests.{not-true, not-false}
-use Rattle.script.proofs.Fill.{Filling, filling-none, filling-more, filled, not-filled}
+use Rattle.script.proofs.Fill.{Filling, filling_none, filling_more, filled, not_filled}
 use Rattle.script.proofs.fill_u32.Statement.{statement}
 use Rattle.script.proofs.fill_u32.Tie as tie
 
@@ -21,13 +21,13 @@ returns : tie.Need-returns invariant-loop decreases-loop
 returns c =
     let a = c.before.before.before.before.args in
     let call = c.before.can-fill in
-    not-filled (λ w. w) a.bytes.now a.at a.n a.out.now (sym call.ensures ∙ not-true call.result c.if1.true)
+    not_filled (λ w. w) a.bytes.now a.at a.n a.out.now (sym call.ensures ∙ not-true call.result c.if1.true)
 
 loop-holds : tie.Need-loop-init invariant-loop decreases-loop
 loop-holds c =
     let a = c.before.before.before.before.args in
     let call = c.before.can-fill in
-    filling-none (λ w. w) a.bytes.now a.at a.n a.out.now (sym call.ensures ∙ not-false call.result c.if1.false)
+    filling_none (λ w. w) a.bytes.now a.at a.n a.out.now (sym call.ensures ∙ not-false call.result c.if1.false)
 
 add-word-at : tie.Need-overflow-add-word-at invariant-loop decreases-loop
 add-word-at c = omega arith
@@ -51,7 +51,7 @@ loop-again : tie.Need-loop-preserved invariant-loop decreases-loop
 loop-again c =
     let a = c.before.before.before.before.before.before.before.args in
     let l = c.before.before.loop in
-    filling-more (λ w. w) a.bytes.now a.at a.n a.out.now 0 c.word_at.result l.out l.i l.invariant c.before.loop-test.true c.word_at.ensures
+    filling_more (λ w. w) a.bytes.now a.at a.n a.out.now 0 c.word_at.result l.out l.i l.invariant c.before.loop-test.true c.word_at.ensures
 
 same_length : tie.Need-same-length invariant-loop decreases-loop
 same_length c = c.before.loop.invariant.as_long

@@ -2,7 +2,7 @@
 use mathlib.Core.Path.{sym}
 use borrow.Author.Rules.{rules}
 use lib.Ieee.{of_bits, div}
-use Rattle.script.proofs.Numbers.{nan_pattern, no-nan-pattern}
+use Rattle.script.proofs.Numbers.{nan_pattern, no_nan_pattern}
 use Rattle.script.proofs.float_of.Statement.{statement}
 use Rattle.script.proofs.float_of.Tie as tie
 
@@ -11,7 +11,7 @@ unfolding of_bits div
 returns c = sym (nan_pattern c.before.args.w c.if1.true)
 
 float-from-bits-result : tie.Need-float-from-bits-result
-float-from-bits-result c = no-nan-pattern c.before.args.w c.if1.false
+float-from-bits-result c = no_nan_pattern c.before.args.w c.if1.false
 
 returns-2 : tie.Need-returns-2
 returns-2 c = search rules

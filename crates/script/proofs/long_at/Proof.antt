@@ -1,7 +1,7 @@
 -- `script::long_at` meets its contract: past the words both halves are 0.
 use Prim.Native.Nat.{◌+◌, ◌≤◌}
 use native.Mathlib.Omega.{arith}
-use Rattle.script.specs.Words.{wordCount, past_words}
+use Rattle.script.specs.Words.{word_count, past_words}
 use borrow.Author.Rules.{rules}
 use Rattle.script.proofs.long_at.Statement.{statement}
 use Rattle.script.proofs.long_at.Tie as tie
@@ -13,8 +13,8 @@ returns : tie.Need-returns
 returns c =
     let a = c.before.before.before.args in
     let bs = a.bytes.now in
-    let h : wordCount bs ≤ a.at = omega arith in
-    let k : wordCount bs ≤ a.at + 1 = omega arith in
+    let h : word_count bs ≤ a.at = omega arith in
+    let k : word_count bs ≤ a.at + 1 = omega arith in
     omega (arith, past_words bs a.at h, past_words bs (a.at + 1) k)
 
 word-at-requires : tie.Need-word-at-requires

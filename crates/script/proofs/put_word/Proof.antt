@@ -3,17 +3,17 @@ use Prim.Native.Nat.{◌+◌, ◌*◌, ◌≤◌, ◌<◌}
 use native.Mathlib.Omega.{arith}
 use borrow.Author.Tests.{lt-ltb, le-ltb}
 use lib.ListN.{length, length-set}
-use Rattle.script.specs.Words.{wordCount, placeAfter, putWord}
-use Rattle.script.proofs.Fill.{four-stores}
+use Rattle.script.specs.Words.{word_count, place_after, put_word}
+use Rattle.script.proofs.Fill.{four_stores}
 use borrow.Author.Rules.{rules}
 use Rattle.script.proofs.put_word.Statement.{statement}
 use Rattle.script.proofs.put_word.Tie as tie
 
 returns : tie.Need-returns
-unfolding placeAfter putWord
+unfolding place_after put_word
 returns c =
     let a = c.before.args in
-    let h : wordCount a.out.now ≤ a.at = omega arith in
+    let h : word_count a.out.now ≤ a.at = omega arith in
     record { moved = simp (le-ltb _ _ h); written = simp (le-ltb _ _ h) }
 
 mul-i : tie.Need-overflow-mul-i
@@ -59,13 +59,13 @@ same_length : tie.Need-same-length
 same_length c = search rules
 
 returns-2 : tie.Need-returns-2
-unfolding placeAfter putWord
+unfolding place_after put_word
 returns-2 c =
     let a = c.before.args in
     let bs = a.out.now in
-    let h : a.at < wordCount bs = omega arith in
+    let h : a.at < word_count bs = omega arith in
     let k : 4 * a.at + 4 ≤ length bs = omega arith in
-    record { moved = simp (lt-ltb _ _ h); written = rw (lt-ltb _ _ h) (four-stores bs (4 * a.at) _ _ _ _ k) }
+    record { moved = simp (lt-ltb _ _ h); written = rw (lt-ltb _ _ h) (four_stores bs (4 * a.at) _ _ _ _ k) }
 
 pub put-word-spec : {M : Type 1} → statement M
 put-word-spec =

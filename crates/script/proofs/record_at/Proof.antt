@@ -4,8 +4,8 @@ use Prim.Native.Nat.{◌+◌, ◌%◌, ◌≤◌, ◌<◌}
 use native.Mathlib.Omega.{arith}
 use borrow.Author.Tests.{le-leb, lt-leb, eq-eqb, ne_eqb}
 use lib.ListN.{length}
-use Rattle.script.specs.Words.{wordCount, wordAt}
-use Rattle.script.specs.Records.{recordAt}
+use Rattle.script.specs.Words.{word_count, word_at}
+use Rattle.script.specs.Records.{record_at}
 use borrow.Author.Rules.{rules}
 use Rattle.script.proofs.record_at.Statement.{statement}
 use Rattle.script.proofs.record_at.Tie as tie
@@ -14,30 +14,30 @@ words-requires : tie.Need-words-requires
 words-requires c κs = search rules
 
 returns : tie.Need-returns
-unfolding recordAt
+unfolding record_at
 returns c =
     let a = c.before.before.before.before.args in
-    let h : wordCount a.bytes.now ≤ a.at = omega arith in
+    let h : word_count a.bytes.now ≤ a.at = omega arith in
     let e : length a.bytes.now % 4 ≡ 0 = omega arith in
     simp (le-leb _ _ h, eq-eqb _ _ e)
 
 returns-2 : tie.Need-returns-2
-unfolding recordAt
+unfolding record_at
 returns-2 c =
     let a = c.before.before.before.before.args in
-    let h : wordCount a.bytes.now ≤ a.at = omega arith in
+    let h : word_count a.bytes.now ≤ a.at = omega arith in
     simp (le-leb _ _ h, ne_eqb _ _ c.if2.false)
 
 sub-if3 : tie.Need-overflow-sub-if3
 sub-if3 c = search rules
 
 returns-3 : tie.Need-returns-3
-unfolding recordAt
+unfolding record_at
 returns-3 c =
     let a = c.before.before.before.before.args in
     let bs = a.bytes.now in
-    let h : a.at < wordCount bs = omega arith in
-    let k : wordCount bs < a.at + 2 + wordAt bs (a.at + 1) = omega arith in
+    let h : a.at < word_count bs = omega arith in
+    let k : word_count bs < a.at + 2 + word_at bs (a.at + 1) = omega arith in
     simp (lt-leb _ _ h, lt-leb _ _ k)
 
 add_start : tie.Need-overflow-add-start
@@ -56,24 +56,24 @@ sub-if4 : tie.Need-overflow-sub-if4
 sub-if4 c = search rules
 
 returns-4 : tie.Need-returns-4
-unfolding recordAt
+unfolding record_at
 returns-4 c =
     let a = c.before.before.before.before.before.before.args in
     let bs = a.bytes.now in
-    let h : a.at < wordCount bs = omega arith in
-    let k : wordCount bs < a.at + 2 + wordAt bs (a.at + 1) = omega arith in
+    let h : a.at < word_count bs = omega arith in
+    let k : word_count bs < a.at + 2 + word_at bs (a.at + 1) = omega arith in
     simp (lt-leb _ _ h, lt-leb _ _ k)
 
 word-at-requires-2 : tie.Need-word-at-requires-2
 word-at-requires-2 c κs = search rules
 
 returns-5 : tie.Need-returns-5
-unfolding recordAt
+unfolding record_at
 returns-5 c =
     let a = c.before.before.before.before.before.before.before.args in
     let bs = a.bytes.now in
-    let h : a.at < wordCount bs = omega arith in
-    let k : a.at + 2 + wordAt bs (a.at + 1) ≤ wordCount bs = omega arith in
+    let h : a.at < word_count bs = omega arith in
+    let k : a.at + 2 + word_at bs (a.at + 1) ≤ word_count bs = omega arith in
     simp (lt-leb _ _ h, le-leb _ _ k, c.word-at2.ensures, c.before.before.word_at.ensures)
 
 pub record-at-spec : {M : Type 1} → statement M

@@ -3,7 +3,7 @@ use mathlib.Core.Path.{sym}
 use Prim.Native.Nat.{◌≤◌, ◌<◌}
 use native.Mathlib.Omega.{arith}
 use borrow.Author.Tests.{lt-ltb}
-use Rattle.script.specs.Words.{wordCount, wordAt, past_words}
+use Rattle.script.specs.Words.{word_count, word_at, past_words}
 use borrow.Author.Rules.{rules}
 use Rattle.script.proofs.word_at.Statement.{statement}
 use Rattle.script.proofs.word_at.Tie as tie
@@ -14,7 +14,7 @@ words-requires c κs = search rules
 returns : tie.Need-returns
 returns c =
     let a = c.before.before.before.args in
-    let h : wordCount a.bytes.now ≤ a.at = omega arith in
+    let h : word_count a.bytes.now ≤ a.at = omega arith in
     sym (past_words a.bytes.now a.at h)
 
 mul-i : tie.Need-overflow-mul-i
@@ -45,10 +45,10 @@ joined-requires : tie.Need-joined-requires
 joined-requires c κs = search rules
 
 returns-2 : tie.Need-returns-2
-unfolding wordAt
+unfolding word_at
 returns-2 c =
     let a = c.before.before.before.before.before.before.before.before.args in
-    let h : a.at < wordCount a.bytes.now = omega arith in
+    let h : a.at < word_count a.bytes.now = omega arith in
     rw (lt-ltb _ _ h) c.joined.ensures
 
 pub word-at-spec : {M : Type 1} → statement M

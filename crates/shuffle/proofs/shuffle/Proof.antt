@@ -7,7 +7,7 @@ use borrow.Author.Rules.{rules}
 use lib.ListN.{length, length-set}
 use Rattle.shuffle.specs.Block.{wrong, shuffled, right}
 use Rattle.shuffle.proofs.Answers.{refused, done}
-use Rattle.shuffle.proofs.Filling.{Shuffling, shuffling-more, shuffling-done, filled_none}
+use Rattle.shuffle.proofs.Filling.{Shuffling, shuffling_more, shuffling_done, filled_none}
 use Rattle.shuffle.proofs.shuffle.Statement.{statement}
 use Rattle.shuffle.proofs.shuffle.Tie as tie
 
@@ -94,7 +94,7 @@ loop-again : tie.Need-loop-preserved invariant-loop decreases-loop
 loop-again c =
     let block = c.before.before.before.before.before.before.before.before.before.before.args.block.now in
     let l = c.before.before.before.before.before.loop in
-    (omega arith, omega arith, omega arith, shuffling-more (length block / 4) block l.output l.i (omega arith) l.invariant.3)
+    (omega arith, omega arith, omega arith, shuffling_more (length block / 4) block l.output l.i (omega arith) l.invariant.3)
 
 same_length : tie.Need-same-length invariant-loop decreases-loop
 same_length c = omega arith
@@ -104,7 +104,7 @@ returns-2 c =
     let block = c.before.before.before.before.before.before.args.block.now in
     let l = c.before.loop in
     let e : l.i ≡ length block / 4 = omega arith in
-    done shuffled _ _ (accepted c.before.before) l.output (shuffling-done _ block l.output (rw e at l.invariant.3))
+    done shuffled _ _ (accepted c.before.before) l.output (shuffling_done _ block l.output (rw e at l.invariant.3))
 
 pub shuffle-spec : {M : Type 1} → statement M
 shuffle-spec =

@@ -8,7 +8,7 @@ use borrow.Author.Tests.{ltb-false}
 use lib.ListN.{length, length-set}
 use Rattle.shuffle.specs.Block.{wrong, unshuffled, right}
 use Rattle.shuffle.proofs.Answers.{refused, done}
-use Rattle.shuffle.proofs.Filling.{Unshuffling, unshuffling-more, unshuffling-done, filled_none}
+use Rattle.shuffle.proofs.Filling.{Unshuffling, unshuffling_more, unshuffling_done, filled_none}
 use Rattle.shuffle.proofs.unshuffle.Statement.{statement}
 use Rattle.shuffle.proofs.unshuffle.Tie as tie
 
@@ -104,7 +104,7 @@ loop-again : tie.Need-loop-preserved invariant-loop decreases-loop
 loop-again c =
     let block = c.before.before.before.before.before.before.before.before.before.before.before.before.before.args.block.now in
     let l = c.before.before.before.before.before.before.before.before.loop in
-    (omega arith, omega arith, omega arith, unshuffling-more (length block / 4) block l.output l.i (omega arith) l.invariant.3)
+    (omega arith, omega arith, omega arith, unshuffling_more (length block / 4) block l.output l.i (omega arith) l.invariant.3)
 
 same_length : tie.Need-same-length invariant-loop decreases-loop
 same_length c = omega arith
@@ -132,7 +132,7 @@ returns-5 c =
     let block = c.before.before.before.before.before.before.args.block.now in
     let l = c.before.loop in
     let e : l.i ≡ length block / 4 = omega arith in
-    done unshuffled _ _ (accepted c.before.before) l.output (unshuffling-done _ block l.output (rw e at l.invariant.3))
+    done unshuffled _ _ (accepted c.before.before) l.output (unshuffling_done _ block l.output (rw e at l.invariant.3))
 
 pub unshuffle-spec : {M : Type 1} → statement M
 unshuffle-spec =

@@ -1,7 +1,7 @@
 -- `silence_weighting::frame_at` meets its contract: what the memory holds where the list reaches, and an unknown frame behind it.
 use lib.Ieee.{of_bits}
 use borrow.Author.Tests.{lt-ltb, le-ltb}
-use Rattle.silence_weighting.specs.Parts.{grownAt}
+use Rattle.silence_weighting.specs.Parts.{grown_at}
 use borrow.Author.Rules.{rules}
 use Rattle.silence_weighting.proofs.frame_at.Statement.{statement}
 use Rattle.silence_weighting.proofs.frame_at.Tie as tie
@@ -25,11 +25,11 @@ shared-slice-read-t17 : tie.Need-shared-slice-read-t17
 shared-slice-read-t17 c = search rules
 
 returns : tie.Need-returns
-unfolding grownAt
+unfolding grown_at
 returns c = simp (lt-ltb _ _ c.before.before.before.if1.true)
 
 returns-2 : tie.Need-returns-2
-unfolding grownAt of_bits
+unfolding grown_at of_bits
 returns-2 c = simp (le-ltb _ _ c.if1.false)
 
 pub frame-at-spec : {M : Type 1} → statement M

@@ -2,19 +2,19 @@
 use mir.ValLaws.{to_z-of_z}
 use mir.Val.{to_z}
 use lib.ListN.{length, drop, get_or}
-use Rattle.silence_weighting.proofs.Ints.{bits-eq, bits-ne, found, passed, missing}
+use Rattle.silence_weighting.proofs.Ints.{bits_eq, bits_ne, found, passed, missing}
 use mathlib.Core.Path.{◌≡◌, refl, sym, ◌∙◌}
 use Prim.Native.Nat.{◌≤◌, ◌-◌}
 use native.Mathlib.Omega.{arith}
 use lib.IntN.{pos}
 use mir.Syntax.{w32}
 use borrow.Author.Rules.{rules}
-use Rattle.model.specs.Silence.{isSilence}
+use Rattle.model.specs.Silence.{is_silence}
 use Rattle.silence_weighting.proofs.is_silence.Statement.{statement}
 use Rattle.silence_weighting.proofs.is_silence.Tie as tie
 
 abbrev invariant-loop : tie.invariant-loop
-invariant-loop silence-phones phone i₀ i = (i ≤ length silence-phones) × (isSilence silence-phones (to_z w32 phone) ≡ isSilence (drop i silence-phones) (to_z w32 phone))
+invariant-loop silence-phones phone i₀ i = (i ≤ length silence-phones) × (is_silence silence-phones (to_z w32 phone) ≡ is_silence (drop i silence-phones) (to_z w32 phone))
 
 abbrev decreases-loop : tie.decreases-loop
 decreases-loop silence-phones phone i₀ i = length silence-phones - i
@@ -34,7 +34,7 @@ returns c =
     let ps = c.before.before.before.before.args.silence-phones.now in
     let p = c.before.before.before.before.args.phone in
     let e = to_z-of_z w32 p c.before.before.before.before.ranges.phone in
-    let yes = bits-eq (get_or ps l.i (pos 0)) p (record { sfits = c.before.if12.given }) c.before.before.before.before.ranges.phone c.if1.true in
+    let yes = bits_eq (get_or ps l.i (pos 0)) p (record { sfits = c.before.if12.given }) c.before.before.before.before.ranges.phone c.if1.true in
     sym (rw e at l.invariant.1 ∙ found ps p l.i (omega arith) yes)
 
 add-i : tie.Need-overflow-add-i invariant-loop decreases-loop
@@ -49,7 +49,7 @@ loop-again c =
     let ps = c.before.before.before.before.args.silence-phones.now in
     let p = c.before.before.before.before.args.phone in
     let e = to_z-of_z w32 p c.before.before.before.before.ranges.phone in
-    let no = bits-ne (get_or ps l.i (pos 0)) p c.if1.false in
+    let no = bits_ne (get_or ps l.i (pos 0)) p c.if1.false in
     (search rules, l.invariant.1 ∙ rw e (passed ps p l.i (omega arith) no))
 
 returns-2 : tie.Need-returns-2 invariant-loop decreases-loop

@@ -7,7 +7,7 @@ use lib.ListN.{length, length-set}
 use lib.Seq.{sets}
 use borrow.Author.Rules.{rules}
 use Rattle.lists.specs.Lists.{range}
-use Rattle.silence_weighting.proofs.Runs.{put-more, put-done}
+use Rattle.silence_weighting.proofs.Runs.{put_more, put_done}
 use Rattle.silence_weighting.proofs.put_frames.Statement.{statement}
 use Rattle.silence_weighting.proofs.put_frames.Tie as tie
 
@@ -42,7 +42,7 @@ loop-again : tie.Need-loop-preserved invariant-loop decreases-loop
 loop-again c =
     let l = c.before.loop in
     let a = c.before.before.args in
-    (length-set l.frames (a.at + l.k) (a.number + l.k) ∙ l.invariant.0, put-more l.frames a.at a.number a.times l.k (omega arith) ∙ l.invariant.1)
+    (length-set l.frames (a.at + l.k) (a.number + l.k) ∙ l.invariant.0, put_more l.frames a.at a.number a.times l.k (omega arith) ∙ l.invariant.1)
 
 same_length : tie.Need-same-length invariant-loop decreases-loop
 same_length c = c.before.loop.invariant.0
@@ -51,7 +51,7 @@ returns : tie.Need-returns invariant-loop decreases-loop
 returns c =
     let l = c.before.loop in
     let a = c.before.before.args in
-    sym (put-done l.frames a.at a.number a.times l.k (omega arith)) ∙ l.invariant.1
+    sym (put_done l.frames a.at a.number a.times l.k (omega arith)) ∙ l.invariant.1
 
 pub put-frames-spec : {M : Type 1} → statement M
 put-frames-spec =

@@ -2,7 +2,7 @@
 use mir.Syntax.{w32}
 use mir.ValLaws.{to_z-of_z}
 use mathlib.Core.Path.{sym, ◌∙◌}
-use Rattle.silence_weighting.specs.Parts.{statusOf}
+use Rattle.silence_weighting.specs.Parts.{status_of}
 use borrow.Author.Rules.{rules}
 use Rattle.silence_weighting.proofs.status_of.Statement.{statement}
 use Rattle.silence_weighting.proofs.status_of.Tie as tie
@@ -11,14 +11,14 @@ is-silence-requires : tie.Need-is-silence-requires
 is-silence-requires c κs = search rules
 
 returns : tie.Need-returns
-unfolding statusOf
+unfolding status_of
 returns c =
     let a = c.before.before in
     let e = to_z-of_z w32 a.args.phone a.ranges.phone in
     simp (sym (rw e at c.before.is-silence.ensures) ∙ c.if1.true)
 
 returns-2 : tie.Need-returns-2
-unfolding statusOf
+unfolding status_of
 returns-2 c =
     let a = c.before.before in
     let e = to_z-of_z w32 a.args.phone a.ranges.phone in

@@ -1,5 +1,5 @@
 -- `silence_weighting::tell_segments` meets its contract: the segments that are left, stored now, give the list that is wanted.
-use Rattle.silence_weighting.proofs.Told.{told-next, told-done}
+use Rattle.silence_weighting.proofs.Told.{told_next, told_done}
 use mathlib.Core.Path.{◌≡◌, refl, sym, ◌∙◌}
 use Prim.Native.Nat.{◌≤◌, ◌-◌}
 use native.Mathlib.Omega.{arith}
@@ -8,14 +8,14 @@ use lib.ListN.{length, get_or}
 use lib.IntN.{pos}
 use mir.Syntax.{w32}
 use mir.ValLaws.{to_z-of_z}
-use Rattle.silence_weighting.specs.State.{segmentCount, segmentsOf}
-use Rattle.silence_weighting.specs.Parts.{toldTo}
-use Rattle.silence_weighting.proofs.Segments.{segmentsFrom, all_left}
+use Rattle.silence_weighting.specs.State.{segment_count, segments_of}
+use Rattle.silence_weighting.specs.Parts.{told_to}
+use Rattle.silence_weighting.proofs.Segments.{segments_from, all_left}
 use Rattle.silence_weighting.proofs.tell_segments.Statement.{statement}
 use Rattle.silence_weighting.proofs.tell_segments.Tie as tie
 
 abbrev invariant-loop : tie.invariant-loop
-invariant-loop silence-phones phones starts ends decoded status₀ count k₀ status k = (count ≡ segmentCount phones starts ends) × ((k ≤ count) × ((length status ≡ length status₀) × (toldTo silence-phones (segmentsFrom phones starts ends k) decoded status ≡ toldTo silence-phones (segmentsOf phones starts ends) decoded status₀)))
+invariant-loop silence-phones phones starts ends decoded status₀ count k₀ status k = (count ≡ segment_count phones starts ends) × ((k ≤ count) × ((length status ≡ length status₀) × (told_to silence-phones (segments_from phones starts ends k) decoded status ≡ told_to silence-phones (segments_of phones starts ends) decoded status₀)))
 
 abbrev decreases-loop : tie.decreases-loop
 decreases-loop silence-phones phones starts ends decoded status₀ count k₀ status k = count - k
@@ -81,7 +81,7 @@ loop-again c =
         search rules,
         (
           s.auto.0 ∙ l.invariant.1.1.0,
-          told-next a.silence-phones.now a.phones.now a.starts.now a.ends.now a.decoded k l.status v.result b.result s.new.0 (omega arith) (rw e at v.ensures) b.ensures s.ensures
+          told_next a.silence-phones.now a.phones.now a.starts.now a.ends.now a.decoded k l.status v.result b.result s.new.0 (omega arith) (rw e at v.ensures) b.ensures s.ensures
               ∙ l.invariant.1.1.1,
         ),
       ),
@@ -94,7 +94,7 @@ returns : tie.Need-returns invariant-loop decreases-loop
 returns c =
     let a = c.before.before.before.before.before.before.args in
     let l = c.before.loop in
-    sym (told-done a.silence-phones.now a.phones.now a.starts.now a.ends.now a.decoded l.k l.status (omega arith)) ∙ l.invariant.1.1.1
+    sym (told_done a.silence-phones.now a.phones.now a.starts.now a.ends.now a.decoded l.k l.status (omega arith)) ∙ l.invariant.1.1.1
 
 pub tell-segments-spec : {M : Type 1} → statement M
 tell-segments-spec =

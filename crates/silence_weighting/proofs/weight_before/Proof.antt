@@ -1,12 +1,12 @@
 -- `silence_weighting::weight_before` meets its contract: its test is the definition's.
 use borrow.Author.Tests.{eq-eqb, ne_eqb}
-use Rattle.silence_weighting.specs.Parts.{weightBefore}
+use Rattle.silence_weighting.specs.Parts.{weight_before}
 use borrow.Author.Rules.{rules}
 use Rattle.silence_weighting.proofs.weight_before.Statement.{statement}
 use Rattle.silence_weighting.proofs.weight_before.Tie as tie
 
 returns : tie.Need-returns
-unfolding weightBefore
+unfolding weight_before
 returns c = simp (eq-eqb _ _ c.if1.true)
 
 sub-result : tie.Need-overflow-sub-result
@@ -19,7 +19,7 @@ shared-slice-read-result : tie.Need-shared-slice-read-result
 shared-slice-read-result c = search rules
 
 returns-2 : tie.Need-returns-2
-unfolding weightBefore
+unfolding weight_before
 returns-2 c = simp (ne_eqb _ _ c.before.if1.false)
 
 pub weight-before-spec : {M : Type 1} → statement M

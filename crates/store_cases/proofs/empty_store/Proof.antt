@@ -1,5 +1,5 @@
 -- Both tables are emptied.
-use Rattle.store_cases.proofs.Keeps.{ready-none, emptied}
+use Rattle.store_cases.proofs.Keeps.{ready_none, emptied}
 use borrow.Author.Rules.{rules}
 use Rattle.store_cases.proofs.empty_store.Statement.{statement}
 use Rattle.store_cases.proofs.empty_store.Tie as tie
@@ -20,7 +20,7 @@ same_length : tie.Need-same-length
 same_length c = search rules
 
 returns : tie.Need-returns
-returns c = λ s. ready-none s _ _ _ c.before.least.ensures c.least2.ensures (emptied _ _ _ c.before.before.before.before.before.before.before.before.clear.ensures c.before.before.before.before.clear2.ensures)
+returns c = λ s. ready_none s _ _ _ c.before.least.ensures c.least2.ensures (emptied _ _ _ c.before.before.before.before.before.before.before.before.clear.ensures c.before.before.before.before.clear2.ensures)
 
 pub empty-store-spec : {M : Type 1} → statement M
 empty-store-spec =

@@ -1,5 +1,5 @@
 -- One token put, or none.
-use Rattle.store_cases.proofs.Keeps.{held-put, held_kept}
+use Rattle.store_cases.proofs.Keeps.{held_put, held_kept}
 use borrow.Author.Rules.{rules}
 use Rattle.store_cases.proofs.hold.Statement.{statement}
 use Rattle.store_cases.proofs.hold.Tie as tie
@@ -14,7 +14,7 @@ same_length : tie.Need-same-length
 same_length c = search rules
 
 returns : tie.Need-returns
-returns c = held-put _ _ _ _ _ _ c.before.before.before.put-token.ensures
+returns c = held_put _ _ _ _ _ _ c.before.before.before.put-token.ensures
 
 returns-2 : tie.Need-returns-2
 returns-2 c = held_kept _ _

@@ -7,7 +7,7 @@ use mathlib.Core.List.{List, []}
 use lib.ListN.{length}
 use Rattle.records.specs.Layout.{store}
 use Rattle.store_cases.specs.Ready.{RecordsPut}
-use Rattle.store_cases.proofs.Keeps.{put-none, put_then, put-link}
+use Rattle.store_cases.proofs.Keeps.{put_none, put_then, put_link}
 use Rattle.store_cases.proofs.link_on.Statement.{statement}
 use Rattle.store_cases.proofs.link_on.Tie as tie
 use borrow.Author.Rules.{rules}
@@ -21,10 +21,10 @@ abbrev decreases-loop : tie.decreases-loop
 decreases-loop records₀ labels₀ used cap prev count last₀ n₀ i₀ records labels last n i = count - i
 
 returns : tie.Need-returns invariant-loop decreases-loop
-returns c = record { put = λ gs. put-none _ _ _ (omega arith) }
+returns c = record { put = λ gs. put_none _ _ _ (omega arith) }
 
 loop-holds : tie.Need-loop-init invariant-loop decreases-loop
-loop-holds c = (c.if1.false, omega arith, refl, refl, λ gs. put-none _ _ _ (omega arith))
+loop-holds c = (c.if1.false, omega arith, refl, refl, λ gs. put_none _ _ _ (omega arith))
 
 put-link-requires : tie.Need-put-link-requires invariant-loop decreases-loop
 put-link-requires c κs = search rules
@@ -41,7 +41,7 @@ loop-again c =
     let l = c.before.before.before.before.before.before.before.before.loop in
     let a = c.before.before.before.before.before.before.before.before.before.before.before.args in
     let lt : l.n < a.cap = omega (arith, l.invariant.1, c.before.before.before.before.before.before.if2.false) in
-    let step = put-link l.records p.new.0 l.labels p.new.1.0 l.n l.last l.n l.n p.result a.cap (pos 7) lt l.invariant.0 refl p.ensures in (
+    let step = put_link l.records p.new.0 l.labels p.new.1.0 l.n l.last l.n l.n p.result a.cap (pos 7) lt l.invariant.0 refl p.ensures in (
       omega arith,
       (step []).few,
       p.auto.0 ∙ l.invariant.2,

@@ -1,6 +1,6 @@
 -- What is ready holds records, and making room keeps it ready.
 use Rattle.records.specs.Layout.{store}
-use Rattle.store_cases.proofs.Keeps.{ready-holds, ready_made}
+use Rattle.store_cases.proofs.Keeps.{ready_holds, ready_made}
 use borrow.Author.Rules.{rules}
 use Rattle.store_cases.proofs.make.Statement.{statement}
 use Rattle.store_cases.proofs.make.Tie as tie
@@ -9,7 +9,7 @@ returns : tie.Need-returns
 returns c = search rules
 
 make-room-requires : tie.Need-make-room-requires
-make-room-requires c κs = let s = c.before.before.before.before.before.before.before.before in ready-holds _ s.args.tokens.now _ _ _ _ s.requires.0 s.requires.2 s.requires.1 c.before.before.before.before.if1.false
+make-room-requires c κs = let s = c.before.before.before.before.before.before.before.before in ready_holds _ s.args.tokens.now _ _ _ _ s.requires.0 s.requires.2 s.requires.1 c.before.before.before.before.if1.false
 
 tell-requires : tie.Need-tell-requires
 tell-requires c κs = search rules

@@ -1,5 +1,5 @@
 -- Links, a join, or nothing.
-use Rattle.store_cases.proofs.Keeps.{put-none}
+use Rattle.store_cases.proofs.Keeps.{put_none}
 use borrow.Author.Rules.{rules}
 use Rattle.store_cases.proofs.put_on.Statement.{statement}
 use Rattle.store_cases.proofs.put_on.Tie as tie
@@ -33,7 +33,7 @@ returns-2 : tie.Need-returns-2
 returns-2 c = c.before.before.before.before.before.join-on.ensures
 
 returns-3 : tie.Need-returns-3
-returns-3 c = put-none _ _ _ (omega arith)
+returns-3 c = put_none _ _ _ (omega arith)
 
 pub put-on-spec : {M : Type 1} → statement M
 put-on-spec =

@@ -1,7 +1,7 @@
 -- One mark taken away, or none.
 use Prim.Native.Nat.{◌%◌}
 use native.Mathlib.Omega.{arith}
-use Rattle.store_cases.proofs.Keeps.{held-taken, held_kept}
+use Rattle.store_cases.proofs.Keeps.{held_taken, held_kept}
 use borrow.Author.Rules.{rules}
 use Rattle.store_cases.proofs.release.Statement.{statement}
 use Rattle.store_cases.proofs.release.Tie as tie
@@ -34,7 +34,7 @@ same_length : tie.Need-same-length
 same_length c = search rules
 
 returns : tie.Need-returns
-returns c = held-taken c.before.before.args.tokens.now (c.before.before.args.place % 2) _ (omega arith)
+returns c = held_taken c.before.before.args.tokens.now (c.before.before.args.place % 2) _ (omega arith)
 
 returns-2 : tie.Need-returns-2
 returns-2 c = held_kept _ _

@@ -3,7 +3,7 @@ use Prim.Native.Nat.{◌≤◌, ◌-◌}
 use mathlib.Core.Path.{◌≡◌, refl, ◌∙◌}
 use lib.ListN.{length}
 use Rattle.summaries.specs.Summed.{SummedTo}
-use Rattle.summaries.proofs.Table.{summed-none}
+use Rattle.summaries.proofs.Table.{summed_none}
 use borrow.Author.Rules.{rules}
 use native.Mathlib.Omega.{arith}
 use Rattle.summaries.proofs.fill.Statement.{statement}
@@ -18,7 +18,7 @@ decreases-loop records labels used history-keys₀ history-skips₀ k₀ history
     used - k
 
 loop-holds : tie.Need-loop-init invariant-loop decreases-loop
-loop-holds c = (omega arith, refl, refl, summed-none c.before.before.before.requires.1 c.before.before.before.requires.2)
+loop-holds c = (omega arith, refl, refl, summed_none c.before.before.before.requires.1 c.before.before.before.requires.2)
 
 sum-record-requires : tie.Need-sum-record-requires invariant-loop decreases-loop
 sum-record-requires c κs = (c.before.before.before.before.before.before.before.requires.0, c.before.before.loop-test.true, c.before.before.before.loop.invariant.3)

@@ -1,11 +1,11 @@
 -- 0 is no record, and record k + 1 has its own place.
-use Rattle.summaries.proofs.Steps.{join-0, join-some}
+use Rattle.summaries.proofs.Steps.{join_0, join_some}
 use borrow.Author.Rules.{rules}
 use Rattle.summaries.proofs.join_at.Statement.{statement}
 use Rattle.summaries.proofs.join_at.Tie as tie
 
 returns : tie.Need-returns
-returns c = join-0 _ _ c.if1.true
+returns c = join_0 _ _ c.if1.true
 
 sub-result : tie.Need-overflow-sub-result
 sub-result c = search rules
@@ -26,7 +26,7 @@ shared-slice-read-result : tie.Need-shared-slice-read-result
 shared-slice-read-result c = search rules
 
 returns-2 : tie.Need-returns-2
-returns-2 c = join-some _ _ c.before.if1.false
+returns-2 c = join_some _ _ c.before.if1.false
 
 pub join-at-spec : {M : Type 1} → statement M
 join-at-spec =

@@ -1,6 +1,6 @@
 -- The ends are one where their records are; the words from the records skipped to decide then.
 use native.Mathlib.Omega.{arith}
-use Rattle.summaries.proofs.Same.{end_is, ends-apart, ends-one}
+use Rattle.summaries.proofs.Same.{end_is, ends_apart, ends_one}
 use borrow.Author.Rules.{rules}
 use Rattle.summaries.proofs.same_at.Statement.{statement}
 use Rattle.summaries.proofs.same_at.Tie as tie
@@ -12,7 +12,7 @@ end-at-requires-2 : tie.Need-end-at-requires-2
 end-at-requires-2 c κs = search rules
 
 returns : tie.Need-returns
-returns c = let p = c.before.before.before.before.before.requires in ends-apart p.1 p.2 p.3 c.before.before.end-at.ensures c.before.end-at2.ensures c.if1.true
+returns c = let p = c.before.before.before.before.before.requires in ends_apart p.1 p.2 p.3 c.before.before.end-at.ensures c.before.end-at2.ensures c.if1.true
 
 skip-at-requires : tie.Need-skip-at-requires
 skip-at-requires c κs = search rules
@@ -29,7 +29,7 @@ same-above-requires c κs = let p = c.before.before.before.before.before.before.
 )
 
 returns-2 : tie.Need-returns-2
-returns-2 c = let p = c.before.before.before.before.before.before.before.before.requires in ends-one p.1 p.2 p.3 c.before.before.before.before.before.end-at.ensures c.before.before.before.before.end-at2.ensures c.before.before.before.if1.false c.before.before.skip_at.ensures c.before.skip-at2.ensures c.same_above.ensures
+returns-2 c = let p = c.before.before.before.before.before.before.before.before.requires in ends_one p.1 p.2 p.3 c.before.before.before.before.before.end-at.ensures c.before.before.before.before.end-at2.ensures c.before.before.before.if1.false c.before.before.skip_at.ensures c.before.skip-at2.ensures c.same_above.ensures
 
 pub same-at-spec : {M : Type 1} → statement M
 same-at-spec =

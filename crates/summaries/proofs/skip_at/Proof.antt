@@ -1,11 +1,11 @@
 -- 0 is no record, and record k + 1 has its own place.
-use Rattle.summaries.proofs.Steps.{skip-0, skip-some}
+use Rattle.summaries.proofs.Steps.{skip_0, skip_some}
 use borrow.Author.Rules.{rules}
 use Rattle.summaries.proofs.skip_at.Statement.{statement}
 use Rattle.summaries.proofs.skip_at.Tie as tie
 
 returns : tie.Need-returns
-returns c = skip-0 _ _ c.if1.true
+returns c = skip_0 _ _ c.if1.true
 
 sub-result : tie.Need-overflow-sub-result
 sub-result c = search rules
@@ -23,7 +23,7 @@ shared-slice-read-result : tie.Need-shared-slice-read-result
 shared-slice-read-result c = search rules
 
 returns-2 : tie.Need-returns-2
-returns-2 c = skip-some _ _ c.before.if1.false
+returns-2 c = skip_some _ _ c.before.if1.false
 
 pub skip-at-spec : {M : Type 1} → statement M
 skip-at-spec =

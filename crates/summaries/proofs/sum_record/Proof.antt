@@ -1,7 +1,7 @@
 -- The record before it is in the table, and its own word stands on top of that one's.
 use mathlib.Core.Path.{◌∙◌}
 use Rattle.model.specs.Ints.{back}
-use Rattle.summaries.proofs.Table.{prev-under, summed-more}
+use Rattle.summaries.proofs.Table.{prev_under, summed_more}
 use borrow.Author.Rules.{rules}
 use native.Mathlib.Omega.{arith}
 use Rattle.summaries.proofs.sum_record.Statement.{statement}
@@ -22,7 +22,7 @@ is-join-requires c κs = search rules
 key-at-requires : tie.Need-key-at-requires
 key-at-requires c κs =
     let g = c.before.before.before.before.before.before.before.requires in
-    let a = prev-under g.0 g.1 (omega arith) c.before.before.before.prev-of.ensures in
+    let a = prev_under g.0 g.1 (omega arith) c.before.before.before.prev-of.ensures in
     omega (arith, g.2.keys.room)
 
 key-over-requires : tie.Need-key-over-requires
@@ -31,19 +31,19 @@ key-over-requires c κs = search rules
 key-from-requires : tie.Need-key-from-requires
 key-from-requires c κs =
     let g = c.before.before.before.before.before.before.before.before.before.before.requires in
-    let a = prev-under g.0 g.1 (omega arith) c.before.before.before.before.before.before.prev-of.ensures in
+    let a = prev_under g.0 g.1 (omega arith) c.before.before.before.before.before.before.prev-of.ensures in
     omega (arith, g.2.keys.room)
 
 skip-from-requires : tie.Need-skip-from-requires
 skip-from-requires c κs =
     let g = c.before.before.before.before.before.before.before.before.before.before.before.before.requires in
-    let a = prev-under g.0 g.1 (omega arith) c.before.before.before.before.before.before.before.before.prev-of.ensures in
+    let a = prev_under g.0 g.1 (omega arith) c.before.before.before.before.before.before.before.before.prev-of.ensures in
     omega (arith, g.2.skips.room)
 
 join-from-requires : tie.Need-join-from-requires
 join-from-requires c κs =
     let g = c.before.before.before.before.before.before.before.before.before.before.before.before.before.before.requires in
-    let a = prev-under g.0 g.1 (omega arith) c.before.before.before.before.before.before.before.before.before.before.prev-of.ensures in
+    let a = prev_under g.0 g.1 (omega arith) c.before.before.before.before.before.before.before.before.before.before.prev-of.ensures in
     omega (arith, g.2.skips.room)
 
 put-summary-requires : tie.Need-put-summary-requires
@@ -71,7 +71,7 @@ returns c =
     let f = start.well-formed.1.1.1.0 in
     let g = start.requires in
     let e = put.put-summary.ensures in
-    summed-more (omega arith) (omega arith) (omega arith) g.0 g.1 g.2 prev.prev-of.ensures (back w.result w.type-inv ∙ w.ensures) joined.is_join.ensures
+    summed_more (omega arith) (omega arith) (omega arith) g.0 g.1 g.2 prev.prev-of.ensures (back w.result w.type-inv ∙ w.ensures) joined.is_join.ensures
     below.key-at.ensures over.key-over.ensures key.key-from.ensures skip.skip-from.ensures join.join-from.ensures e.0 e.1
 
 pub sum-record-spec : {M : Type 1} → statement M

@@ -5,7 +5,7 @@ use native.Mathlib.Omega.{arith}
 use borrow.Author.Rules.{rules}
 use lib.ListN.{length, length-set}
 use Rattle.tokens.specs.Layout.{Cleared}
-use Rattle.tokens.proofs.Stores.{cleared-none, cleared_more, cleared-upto}
+use Rattle.tokens.proofs.Stores.{cleared_none, cleared_more, cleared_upto}
 use Rattle.tokens.proofs.clear.Statement.{statement}
 use Rattle.tokens.proofs.clear.Tie as tie
 
@@ -18,7 +18,7 @@ decreases-loop tokens₀ side states block₀ tokens block =
     states - block
 
 loop-holds : tie.Need-loop-init invariant-loop decreases-loop
-loop-holds c = (omega arith, refl, cleared-none _ _)
+loop-holds c = (omega arith, refl, cleared_none _ _)
 
 mul-loop : tie.Need-overflow-mul-loop invariant-loop decreases-loop
 mul-loop c = search rules
@@ -54,7 +54,7 @@ same_length : tie.Need-same-length invariant-loop decreases-loop
 same_length c = c.before.loop.invariant.1
 
 returns : tie.Need-returns invariant-loop decreases-loop
-returns c = cleared-upto (omega arith) c.before.loop.invariant.2
+returns c = cleared_upto (omega arith) c.before.loop.invariant.2
 
 pub clear_spec : {M : Type 1} → statement M
 clear_spec =

@@ -3,7 +3,7 @@ use mathlib.Core.Path.{sym, ◌∙◌}
 use native.Mathlib.Omega.{arith}
 use borrow.Author.Tests.{not-true, not-false}
 use Rattle.tokens.specs.Layout.{place_in, held_at}
-use Rattle.tokens.specs.Held.{some-held, none-held, held-is}
+use Rattle.tokens.specs.Held.{some_held, none_held, held_is}
 use borrow.Author.Rules.{rules}
 use Rattle.tokens.proofs.link_at.Statement.{statement}
 use Rattle.tokens.proofs.link_at.Tie as tie
@@ -12,7 +12,7 @@ is-active-requires : tie.Need-is-active-requires
 is-active-requires c κs = search rules
 
 returns : tie.Need-returns
-returns c = let a = c.before.before.before.args in omega (arith, none-held (held_at a.tokens.now (place_in a.side a.s)) (sym c.before.is-active.ensures ∙ not-true c.before.is-active.result c.if1.true))
+returns c = let a = c.before.before.before.args in omega (arith, none_held (held_at a.tokens.now (place_in a.side a.s)) (sym c.before.is-active.ensures ∙ not-true c.before.is-active.result c.if1.true))
 
 mul-p : tie.Need-overflow-mul-p
 mul-p c = search rules
@@ -31,7 +31,7 @@ shared-slice-read-result c = search rules
 
 returns-2 : tie.Need-returns-2
 returns-2 c = let a = c.before.before.before.before.args in
-    omega (arith, held-is a.tokens.now (place_in a.side a.s) (some-held _ (sym c.before.before.is-active.ensures ∙ not-false c.before.before.is-active.result c.before.if1.false)))
+    omega (arith, held_is a.tokens.now (place_in a.side a.s) (some_held _ (sym c.before.before.is-active.ensures ∙ not-false c.before.before.is-active.result c.before.if1.false)))
 
 pub link-at-spec : {M : Type 1} → statement M
 link-at-spec =

@@ -4,13 +4,13 @@ use Prim.Native.Nat.{ℕ, ◌≤◌, ◌<◌, ◌-◌}
 use native.Mathlib.Omega.{arith}
 use borrow.Author.Rules.{rules}
 use Rattle.lists.specs.Tests.{below_more}
-use Rattle.tokens.specs.Layout.{place_in, activeIn}
+use Rattle.tokens.specs.Layout.{place_in, active_in}
 use Rattle.tokens.proofs.next_block.Statement.{statement}
 use Rattle.tokens.proofs.next_block.Tie as tie
 
 abbrev invariant-loop : tie.invariant-loop
 invariant-loop tokens side from states block₀ block =
-    (from ≤ block) × (block ≤ states) × ((i : ℕ) → i < block → from ≤ i → activeIn tokens (place_in side i) ≡ 0)
+    (from ≤ block) × (block ≤ states) × ((i : ℕ) → i < block → from ≤ i → active_in tokens (place_in side i) ≡ 0)
 
 abbrev decreases-loop : tie.decreases-loop
 decreases-loop tokens side from states block₀ block =

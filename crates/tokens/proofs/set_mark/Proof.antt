@@ -1,5 +1,5 @@
 -- One store, at the place of the block's marks.
-use Rattle.tokens.proofs.Marks.{mark-put}
+use Rattle.tokens.proofs.Marks.{mark_put}
 use borrow.Author.Rules.{rules}
 use Rattle.tokens.proofs.set_mark.Statement.{statement}
 use Rattle.tokens.proofs.set_mark.Tie as tie
@@ -35,7 +35,7 @@ same_length : tie.Need-same-length
 same_length c = search rules
 
 returns : tie.Need-returns
-returns c = let s = c.before.args in mark-put s.tokens.now s.side s.s s.mark c.before.requires.0 c.before.requires.2
+returns c = let s = c.before.args in mark_put s.tokens.now s.side s.s s.mark c.before.requires.0 c.before.requires.2
 
 pub set-mark-spec : {M : Type 1} → statement M
 set-mark-spec =

@@ -1,9 +1,9 @@
 -- The best of the states passed, from the last one down.
 use mathlib.Core.Path.{refl, sym, ap, ◌∙◌}
 use native.Mathlib.Omega.{arith}
-use Rattle.traceback.specs.Ranks.{soonestOf}
+use Rattle.traceback.specs.Ranks.{soonest_of}
 use Rattle.traceback.specs.declared.Best.{Best}
-use Rattle.traceback.specs.Ranking.{Chosen, chosen_none, chosen-vacant, chosen-active, chosen-all}
+use Rattle.traceback.specs.Ranking.{Chosen, chosen_none, chosen_vacant, chosen_active, chosen_all}
 use borrow.Author.Rules.{rules}
 use Rattle.traceback.proofs.best_token.Statement.{statement}
 use Rattle.traceback.proofs.best_token.Tie as tie
@@ -36,16 +36,16 @@ loop-less : tie.Need-loop-smaller invariant-loop decreases-loop
 loop-less c = search rules
 
 loop-again : tie.Need-loop-preserved invariant-loop decreases-loop
-loop-again c = chosen-active (omega arith) (omega arith) (sym c.before.before.before.is-active.ensures ∙ c.before.before.if1.true) (c.soonest.ensures ∙ ap (λ (x : Best). soonestOf x c.before.before.before.before.before.loop.best) c.before.candidate-at.ensures) c.before.before.before.before.before.loop.invariant
+loop-again c = chosen_active (omega arith) (omega arith) (sym c.before.before.before.is-active.ensures ∙ c.before.before.if1.true) (c.soonest.ensures ∙ ap (λ (x : Best). soonest_of x c.before.before.before.before.before.loop.best) c.before.candidate-at.ensures) c.before.before.before.before.before.loop.invariant
 
 loop-less-2 : tie.Need-loop-smaller-2 invariant-loop decreases-loop
 loop-less-2 c = search rules
 
 loop-again-2 : tie.Need-loop-preserved-2 invariant-loop decreases-loop
-loop-again-2 c = chosen-vacant (omega arith) (sym c.before.is-active.ensures ∙ c.if1.false) c.before.before.before.loop.invariant
+loop-again-2 c = chosen_vacant (omega arith) (sym c.before.is-active.ensures ∙ c.if1.false) c.before.before.before.loop.invariant
 
 returns : tie.Need-returns invariant-loop decreases-loop
-returns c = chosen-all _ (omega arith) c.before.before.finals-count.ensures c.before.loop.invariant
+returns c = chosen_all _ (omega arith) c.before.before.finals-count.ensures c.before.loop.invariant
 
 pub best-token-spec : {M : Type 1} → statement M
 best-token-spec =

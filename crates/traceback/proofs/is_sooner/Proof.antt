@@ -1,5 +1,5 @@
 -- By its two tests.
-use Rattle.traceback.specs.Ranking.{sooner-tie}
+use Rattle.traceback.specs.Ranking.{sooner_tie}
 use Rattle.traceback.proofs.is_sooner.Statement.{statement}
 use Rattle.traceback.proofs.is_sooner.Tie as tie
 
@@ -7,7 +7,7 @@ returns : tie.Need-returns
 returns c = simp c.if1.true
 
 returns-2 : tie.Need-returns-2
-returns-2 c = sooner-tie _ _ _ c.before.before.before.before.before.if1.false c.before.before.if2.true
+returns-2 c = sooner_tie _ _ _ c.before.before.before.before.before.if1.false c.before.before.if2.true
 
 returns-3 : tie.Need-returns-3
 returns-3 c = simp (c.before.before.before.if1.false, c.if2.false)

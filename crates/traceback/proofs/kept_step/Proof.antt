@@ -3,7 +3,7 @@ use Prim.Native.Nat.{◌-◌}
 use mathlib.Core.Path.{sym, ◌∙◌}
 use native.Mathlib.Omega.{arith}
 use Rattle.model.specs.Ints.{back}
-use Rattle.traceback.specs.Walk.{goes_before, kept-step-on, kept-step-off}
+use Rattle.traceback.specs.Walk.{goes_before, kept_step_on, kept_step_off}
 use borrow.Author.Rules.{rules}
 use Rattle.traceback.proofs.kept_step.Statement.{statement}
 use Rattle.traceback.proofs.kept_step.Tie as tie
@@ -34,10 +34,10 @@ add-t12 c = let z = goes_before c.before.before.kept-phone-of.result c.before.be
     record { fits = omega arith }
 
 returns : tie.Need-returns
-returns c = kept-step-on c.before.before.before.before.before.before.before.before.before.args.records.now c.before.before.before.before.before.before.before.before.before.args.labels.now (c.before.before.before.before.before.before.before.before.before.args.r - 1) _ _ _ _ _ _ _ c.before.before.before.before.before.before.before.kept_of.ensures c.before.before.before.before.before.before.frame-of.ensures (back c.before.before.before.before.before.kept-word-of.result c.before.before.before.before.before.kept-word-of.type-inv ∙ c.before.before.before.before.before.kept-word-of.ensures) c.before.before.before.before.kept-starts-of.ensures c.before.before.before.winner-of.ensures c.before.before.kept-phone-of.ensures (sym c.before.goes_on.ensures ∙ c.if1.true)
+returns c = kept_step_on c.before.before.before.before.before.before.before.before.before.args.records.now c.before.before.before.before.before.before.before.before.before.args.labels.now (c.before.before.before.before.before.before.before.before.before.args.r - 1) _ _ _ _ _ _ _ c.before.before.before.before.before.before.before.kept_of.ensures c.before.before.before.before.before.before.frame-of.ensures (back c.before.before.before.before.before.kept-word-of.result c.before.before.before.before.before.kept-word-of.type-inv ∙ c.before.before.before.before.before.kept-word-of.ensures) c.before.before.before.before.kept-starts-of.ensures c.before.before.before.winner-of.ensures c.before.before.kept-phone-of.ensures (sym c.before.goes_on.ensures ∙ c.if1.true)
 
 returns-2 : tie.Need-returns-2
-returns-2 c = kept-step-off c.before.before.before.before.before.before.before.before.before.args.records.now c.before.before.before.before.before.before.before.before.before.args.labels.now (c.before.before.before.before.before.before.before.before.before.args.r - 1) _ _ _ _ _ _ _ c.before.before.before.before.before.before.before.kept_of.ensures c.before.before.before.before.before.before.frame-of.ensures (back c.before.before.before.before.before.kept-word-of.result c.before.before.before.before.before.kept-word-of.type-inv ∙ c.before.before.before.before.before.kept-word-of.ensures) c.before.before.before.before.kept-starts-of.ensures c.before.before.before.winner-of.ensures c.before.before.kept-phone-of.ensures (sym c.before.goes_on.ensures ∙ c.if1.false)
+returns-2 c = kept_step_off c.before.before.before.before.before.before.before.before.before.args.records.now c.before.before.before.before.before.before.before.before.before.args.labels.now (c.before.before.before.before.before.before.before.before.before.args.r - 1) _ _ _ _ _ _ _ c.before.before.before.before.before.before.before.kept_of.ensures c.before.before.before.before.before.before.frame-of.ensures (back c.before.before.before.before.before.kept-word-of.result c.before.before.before.before.before.kept-word-of.type-inv ∙ c.before.before.before.before.before.kept-word-of.ensures) c.before.before.before.before.kept-starts-of.ensures c.before.before.before.winner-of.ensures c.before.before.kept-phone-of.ensures (sym c.before.goes_on.ensures ∙ c.if1.false)
 
 pub kept-step-spec : {M : Type 1} → statement M
 kept-step-spec =

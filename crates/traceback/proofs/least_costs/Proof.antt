@@ -9,7 +9,7 @@ use Rattle.real32.specs.Least.{fmin}
 use Rattle.model.specs.Basics.{◌⊕◌, ∞}
 use Rattle.model.specs.Graph.{Graph}
 use Rattle.model.specs.Path.{Table}
-use Rattle.model.specs.Reads.{leastFrom}
+use Rattle.model.specs.Reads.{least_from}
 use Rattle.tokens.specs.Layout.{Cell, cell_at}
 use Rattle.traceback.specs.Table.{Walking, walk_start, walk_turn, walk_end}
 use Rattle.lists.specs.Members.{get_d_any}
@@ -18,10 +18,10 @@ use Rattle.traceback.proofs.least_costs.Statement.{statement}
 use Rattle.traceback.proofs.least_costs.Tie as tie
 
 abbrev from : Graph → (cost ending : Float) → ℕ → Table → Float × Float
-from g x y s ts = leastFrom g s ts (x, y)
+from g x y s ts = least_from g s ts (x, y)
 
 abbrev whole : Graph → Table → Float × Float
-whole g ts = leastFrom g 0 ts (∞, ∞)
+whole g ts = least_from g 0 ts (∞, ∞)
 
 abbrev invariant-loop : tie.invariant-loop
 invariant-loop tokens sums finals states side cost₀ ending₀ s₀ cost ending s = (g : Graph) → g.finals ≡ finals → Walking tokens sums side states s (from g cost ending) (whole g)
@@ -39,7 +39,7 @@ next-active-requires : tie.Need-next-active-requires invariant-loop decreases-lo
 next-active-requires c κs = search rules
 
 loop-holds : tie.Need-loop-init invariant-loop decreases-loop
-loop-holds c = λ g q. walk_start (from g c.before.before.infinity.result c.before.infinity2.result) (whole g) (λ s rest. refl) (λ ts. ap₂ (λ (x y : Float). leastFrom g 0 ts (x, y)) c.before.before.infinity.ensures c.before.infinity2.ensures) c.next-active.ensures
+loop-holds c = λ g q. walk_start (from g c.before.before.infinity.result c.before.infinity2.result) (whole g) (λ s rest. refl) (λ ts. ap₂ (λ (x y : Float). least_from g 0 ts (x, y)) c.before.before.infinity.ensures c.before.infinity2.ensures) c.next-active.ensures
 
 cost-at-requires : tie.Need-cost-at-requires invariant-loop decreases-loop
 cost-at-requires c κs = search rules
@@ -76,7 +76,7 @@ loop-again c = λ g q.
     (λ h used t y e i rest.
     let k : c.before.before.before.before.cost-at.result ≡ t.cost = c.before.before.before.before.cost-at.ensures ∙ ap (λ (z : Cell). z.cost) e ∙ i.cost in
     let f : get_or c.before.before.before.before.before.before.before.before.before.before.before.before.before.args.finals.now l.s nan ≡ get_or g.finals l.s ∞ = get_d_any c.before.before.before.before.before.before.before.before.before.before.before.before.before.args.finals.now l.s nan ∞ (omega arith) ∙ ap (λ (z : List Float). get_or z l.s ∞) (sym q) in
-    ap₂ (λ (x y : Float). leastFrom g (suc l.s) rest (x, y)) (c.before.before.before.lesser.ensures ∙ ap (fmin l.cost) k) (c.before.lesser2.ensures ∙ ap₂ (λ (x y : Float). fmin l.ending (x ⊕ y)) k f)) c.next-active2.ensures
+    ap₂ (λ (x y : Float). least_from g (suc l.s) rest (x, y)) (c.before.before.before.lesser.ensures ∙ ap (fmin l.cost) k) (c.before.lesser2.ensures ∙ ap₂ (λ (x y : Float). fmin l.ending (x ⊕ y)) k f)) c.next-active2.ensures
 
 returns : tie.Need-returns invariant-loop decreases-loop
 returns c = record { is = λ g q h used st w. walk_end (from g c.before.loop.cost c.before.loop.ending) (whole g) (c.before.loop.invariant g q) (omega arith) h used st.table w }

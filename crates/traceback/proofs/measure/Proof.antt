@@ -4,11 +4,11 @@ use mathlib.Core.Logic.{inl, inr}
 use Prim.Native.Nat.{ℕ, ◌-◌}
 use native.Mathlib.Omega.{arith}
 use Rattle.lists.specs.Tests.{case}
-use Rattle.model.specs.Ints.{nonzero-yes, nonzero-no}
+use Rattle.model.specs.Ints.{nonzero_yes, nonzero_no}
 use Rattle.traceback.specs.declared.Step.{Step}
 use Rattle.traceback.specs.declared.Head.{Head}
-use Rattle.traceback.specs.Chain.{headOn}
-use Rattle.traceback.specs.Walk.{step-low, head_few, Measuring, measuring-none, measuring-next, measuring-end}
+use Rattle.traceback.specs.Chain.{head_on}
+use Rattle.traceback.specs.Walk.{step_low, head_few, Measuring, measuring_none, measuring_next, measuring_end}
 use borrow.Author.Rules.{rules}
 use Rattle.traceback.proofs.measure.Statement.{statement}
 use Rattle.traceback.proofs.measure.Tie as tie
@@ -20,7 +20,7 @@ abbrev decreases-loop : tie.decreases-loop
 decreases-loop records labels route used n link words₀ head₀ r₀ words head r = r
 
 loop-holds : tie.Need-loop-init invariant-loop decreases-loop
-loop-holds c = measuring-none c.before.before.args.link _ (record { count = refl; phone = refl; start = refl })
+loop-holds c = measuring_none c.before.before.args.link _ (record { count = refl; phone = refl; start = refl })
 
 step-at-requires : tie.Need-step-at-requires invariant-loop decreases-loop
 step-at-requires c κs = let few = c.before.loop.invariant.few in
@@ -43,17 +43,17 @@ begin-requires-2 c κs = let many = c.before.before.before.before.before.before.
 loop-less : tie.Need-loop-smaller invariant-loop decreases-loop
 loop-less c = let few = c.before.before.before.before.before.before.before.loop.invariant.few in
     let a = c.before.before.before.before.before.before.before.before.before.before.args in
-    let l = step-low a.records.now a.labels.now a.route.now a.n a.used c.before.before.before.before.before.before.before.before.before.before.requires.0 (c.before.before.before.before.before.before.before.loop.r - 1) (omega arith) in
+    let l = step_low a.records.now a.labels.now a.route.now a.n a.used c.before.before.before.before.before.before.before.before.before.before.requires.0 (c.before.before.before.before.before.before.before.loop.r - 1) (omega arith) in
     omega (arith, ap (λ (s : Step). s.next) c.before.before.before.before.before.step-at.ensures)
 
 loop-again : tie.Need-loop-preserved invariant-loop decreases-loop
 loop-again c = let s = c.before.before.before.before.before.step-at.result in
-    measuring-next c.before.before.before.before.before.before.before.before.before.before.args.link c.before.before.before.before.before.before.before.before.before.before.requires.0 c.before.before.before.before.before.before.before.before.before.before.requires.1 s c.before.before.before.before.before.before.loop-test.true c.before.before.before.before.before.step-at.ensures
-    (case c.before.before.before.if1.branch (λ x. inl (nonzero-yes s.word x.0.taken, x.1)) (λ x. inr (nonzero-no s.word (record { sfits = c.before.before.before.before.struct_told.given.1.1.0.1 }) x.0.left, x.1)))
-    (c.before.begin.ensures ∙ ap (λ (x : ℕ). headOn c.before.before.before.before.before.before.before.loop.head x s.at) c.before.before.resumes.ensures) c.begin2.ensures c.before.before.before.before.before.before.before.loop.invariant
+    measuring_next c.before.before.before.before.before.before.before.before.before.before.args.link c.before.before.before.before.before.before.before.before.before.before.requires.0 c.before.before.before.before.before.before.before.before.before.before.requires.1 s c.before.before.before.before.before.before.loop-test.true c.before.before.before.before.before.step-at.ensures
+    (case c.before.before.before.if1.branch (λ x. inl (nonzero_yes s.word x.0.taken, x.1)) (λ x. inr (nonzero_no s.word (record { sfits = c.before.before.before.before.struct_told.given.1.1.0.1 }) x.0.left, x.1)))
+    (c.before.begin.ensures ∙ ap (λ (x : ℕ). head_on c.before.before.before.before.before.before.before.loop.head x s.at) c.before.before.resumes.ensures) c.begin2.ensures c.before.before.before.before.before.before.before.loop.invariant
 
 returns : tie.Need-returns invariant-loop decreases-loop
-returns c = measuring-end c.before.before.before.before.args.link c.before.before.before.before.requires.1 c.loop-test.false c.before.loop.invariant
+returns c = measuring_end c.before.before.before.before.args.link c.before.before.before.before.requires.1 c.loop-test.false c.before.loop.invariant
 
 pub measure-spec : {M : Type 1} → statement M
 measure-spec =

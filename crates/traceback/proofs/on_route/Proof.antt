@@ -4,7 +4,7 @@ use Prim.Native.Nat.{◌≤◌, ◌-◌}
 use native.Mathlib.Omega.{arith}
 use lib.ListN.{length, drop}
 use Rattle.model.specs.Path.{memℕ}
-use Rattle.traceback.specs.Walk.{mem-here, mem-not, mem-end}
+use Rattle.traceback.specs.Walk.{mem_here, mem_not, mem_end}
 use borrow.Author.Rules.{rules}
 use Rattle.traceback.proofs.on_route.Statement.{statement}
 use Rattle.traceback.proofs.on_route.Tie as tie
@@ -25,7 +25,7 @@ shared-slice-read-if1 : tie.Need-shared-slice-read-if1 invariant-loop decreases-
 shared-slice-read-if1 c = search rules
 
 returns : tie.Need-returns invariant-loop decreases-loop
-returns c = mem-here _ c.before.before.before.before.args.r c.before.before.before.loop.i c.before.before.before.loop.invariant.1 (omega arith) (sym c.if1.true)
+returns c = mem_here _ c.before.before.before.before.args.r c.before.before.before.loop.i c.before.before.before.loop.invariant.1 (omega arith) (sym c.if1.true)
 
 add-i : tie.Need-overflow-add-i invariant-loop decreases-loop
 add-i c = search rules
@@ -34,10 +34,10 @@ loop-less : tie.Need-loop-smaller invariant-loop decreases-loop
 loop-less c = search rules
 
 loop-again : tie.Need-loop-preserved invariant-loop decreases-loop
-loop-again c = (search rules, mem-not _ c.before.before.before.before.args.r c.before.before.before.loop.i c.before.before.before.loop.invariant.1 (omega arith) (λ e. c.if1.false (sym e)))
+loop-again c = (search rules, mem_not _ c.before.before.before.before.args.r c.before.before.before.loop.i c.before.before.before.loop.invariant.1 (omega arith) (λ e. c.if1.false (sym e)))
 
 returns-2 : tie.Need-returns-2 invariant-loop decreases-loop
-returns-2 c = mem-end _ c.before.before.args.r c.before.loop.i c.before.loop.invariant.1 (omega arith)
+returns-2 c = mem_end _ c.before.before.args.r c.before.loop.i c.before.loop.invariant.1 (omega arith)
 
 pub on-route-spec : {M : Type 1} → statement M
 on-route-spec =

@@ -2,7 +2,7 @@
 use Prim.Native.Nat.{◌-◌}
 use mathlib.Core.Path.{◌∙◌}
 use Rattle.model.specs.Ints.{back}
-use Rattle.traceback.specs.Walk.{own-step-is}
+use Rattle.traceback.specs.Walk.{own_step_is}
 use borrow.Author.Rules.{rules}
 use Rattle.traceback.proofs.own_step.Statement.{statement}
 use Rattle.traceback.proofs.own_step.Tie as tie
@@ -20,7 +20,7 @@ starts-of-requires : tie.Need-starts-of-requires
 starts-of-requires c κs = search rules
 
 returns : tie.Need-returns
-returns c = own-step-is c.before.before.before.before.before.args.records.now c.before.before.before.before.before.args.labels.now (c.before.before.before.before.before.args.r - 1) _ _ _ _ c.before.before.prev-of.ensures c.before.frame-of.ensures (back c.before.before.before.word_of.result c.before.before.before.word_of.type-inv ∙ c.before.before.before.word_of.ensures) c.starts-of.ensures
+returns c = own_step_is c.before.before.before.before.before.args.records.now c.before.before.before.before.before.args.labels.now (c.before.before.before.before.before.args.r - 1) _ _ _ _ c.before.before.prev-of.ensures c.before.frame-of.ensures (back c.before.before.before.word_of.result c.before.before.before.word_of.type-inv ∙ c.before.before.before.word_of.ensures) c.starts-of.ensures
 
 pub own-step-spec : {M : Type 1} → statement M
 own-step-spec =

@@ -1,7 +1,7 @@
 -- Too short, or written.
 use mathlib.Core.Path.{refl, sym, ◌∙◌}
 use Rattle.traceback.specs.Right.{parts}
-use Rattle.traceback.specs.Answers.{long-enough, trace-refused, trace-written}
+use Rattle.traceback.specs.Answers.{long_enough, trace_refused, trace_written}
 use borrow.Author.Rules.{rules}
 use Rattle.traceback.proofs.trace.Statement.{statement}
 use Rattle.traceback.proofs.trace.Tie as tie
@@ -14,10 +14,10 @@ too-short-requires c κs = search rules
 
 returns : tie.Need-returns
 returns c = let a = c.before.before.before.before.before.before.before.args in
-    trace-refused a.records.now a.labels.now a.route.now a.used a.n a.link c.before.before.measure.result c.before.before.measure.ensures (parts a.words.now a.frames.now a.segments.now) (sym c.before.too_short.ensures ∙ c.if1.true) refl
+    trace_refused a.records.now a.labels.now a.route.now a.used a.n a.link c.before.before.measure.result c.before.before.measure.ensures (parts a.words.now a.frames.now a.segments.now) (sym c.before.too_short.ensures ∙ c.if1.true) refl
 
 write-requires : tie.Need-write-requires
-write-requires c κs = let a = c.before.before.before.before.before.before.before.before.before.before.args in (c.before.before.before.before.before.before.before.before.before.before.requires.0, c.before.before.before.before.before.before.before.before.before.before.requires.1, c.before.before.before.before.before.measure.ensures, long-enough c.before.before.before.before.before.measure.result (parts a.words.now a.frames.now a.segments.now) (sym c.before.before.before.before.too_short.ensures ∙ c.before.before.before.if1.false))
+write-requires c κs = let a = c.before.before.before.before.before.before.before.before.before.before.args in (c.before.before.before.before.before.before.before.before.before.before.requires.0, c.before.before.before.before.before.before.before.before.before.before.requires.1, c.before.before.before.before.before.measure.ensures, long_enough c.before.before.before.before.before.measure.result (parts a.words.now a.frames.now a.segments.now) (sym c.before.before.before.before.too_short.ensures ∙ c.before.before.before.if1.false))
 
 same_length : tie.Need-same-length
 same_length c = search rules
@@ -30,7 +30,7 @@ same-length-3 c = search rules
 
 returns-2 : tie.Need-returns-2
 returns-2 c = let a = c.before.before.before.before.before.before.before.before.before.before.before.before.before.before.before.before.args in
-    trace-written a.records.now a.labels.now a.route.now a.used a.n a.link c.before.before.before.before.before.before.before.before.before.before.before.measure.result c.before.before.before.before.before.before.before.before.before.before.before.measure.ensures (parts a.words.now a.frames.now a.segments.now) (sym c.before.before.before.before.before.before.before.before.before.before.too_short.ensures ∙ c.before.before.before.before.before.before.before.before.before.if1.false) c.before.before.before.before.before.write.ensures
+    trace_written a.records.now a.labels.now a.route.now a.used a.n a.link c.before.before.before.before.before.before.before.before.before.before.before.measure.result c.before.before.before.before.before.before.before.before.before.before.before.measure.ensures (parts a.words.now a.frames.now a.segments.now) (sym c.before.before.before.before.before.before.before.before.before.before.too_short.ensures ∙ c.before.before.before.before.before.before.before.before.before.if1.false) c.before.before.before.before.before.write.ensures
 
 pub trace-spec : {M : Type 1} → statement M
 trace-spec =

@@ -1,20 +1,20 @@
 -- `wrapping::wrapping_mul` meets its contract: each product of halves fits, and together they are the product modulo 2^64.
 use Rattle.std.proofs.Common.{ℕ, ◌+◌, ◌*◌, ◌/◌, ◌%◌, ◌^◌, ap, ◌∙◌, arith, rules}
-use Rattle.wrapping.proofs.Halves.{fits-two, low_half, product}
+use Rattle.wrapping.proofs.Halves.{fits_two, low_half, product}
 use Rattle.wrapping.proofs.wrapping_mul.Statement.{statement}
 use Rattle.wrapping.proofs.wrapping_mul.Tie as tie
 
 mul-wrapping-add-u64 : tie.Need-overflow-mul-wrapping-add-u64
-mul-wrapping-add-u64 c = record { fits = fits-two _ _ (omega arith) (omega arith) }
+mul-wrapping-add-u64 c = record { fits = fits_two _ _ (omega arith) (omega arith) }
 
 mul-wrapping-add-u64-2 : tie.Need-overflow-mul-wrapping-add-u64-2
-mul-wrapping-add-u64-2 c = record { fits = fits-two _ _ (omega arith) (omega arith) }
+mul-wrapping-add-u64-2 c = record { fits = fits_two _ _ (omega arith) (omega arith) }
 
 wrapping-add-u64-requires : tie.Need-wrapping-add-u64-requires
 wrapping-add-u64-requires c κs = search rules
 
 mul-wrapping-add-u64-3 : tie.Need-overflow-mul-wrapping-add-u64-3
-mul-wrapping-add-u64-3 c = record { fits = fits-two _ _ (omega arith) (omega arith) }
+mul-wrapping-add-u64-3 c = record { fits = fits_two _ _ (omega arith) (omega arith) }
 
 mul-wrapping-add-u64-4 : tie.Need-overflow-mul-wrapping-add-u64-4
 mul-wrapping-add-u64-4 c = search rules

@@ -1,13 +1,13 @@
 -- `replay::decoding::answer` meets its contract: whatever is answered, the decoder and its stores are as a call leaves them.
-use Rattle.decoder.specs.Held.{held-asked}
-use Rattle.replay_places.specs.Held.{frame-asked}
-use Rattle.replay_reads.specs.Reads.{reads-next}
+use Rattle.decoder.specs.Held.{held_asked}
+use Rattle.replay_places.specs.Held.{frame_asked}
+use Rattle.replay_reads.specs.Reads.{reads_next}
 use borrow.Author.Rules.{rules}
 use Rattle.replay.proofs.decoding.answer.Statement.{statement}
 use Rattle.replay.proofs.decoding.answer.Tie as tie
 
 start-again-requires : tie.Need-start-again-requires
-start-again-requires c κs = (held-asked c.before.before.before.before.before.before.before.before.before.before.before.before.before.before.before.before.before.before.before.before.requires.1.holds).start
+start-again-requires c κs = (held_asked c.before.before.before.before.before.before.before.before.before.before.before.before.before.before.before.before.before.before.before.before.requires.1.holds).start
 
 same_length : tie.Need-same-length
 same_length c = c.before.before.before.before.before.before.before.before.before.before.before.start-again.auto.1.1.0
@@ -31,7 +31,7 @@ returns : tie.Need-returns
 returns c = c.before.before.before.before.before.before.before.before.before.before.before.start-again.ensures _ _ c.before.before.before.before.before.before.before.before.before.before.before.before.before.before.before.before.before.before.before.before.before.before.before.before.before.before.before.before.before.before.before.before.requires.1
 
 frame-requires : tie.Need-frame-requires
-frame-requires c κs = frame-asked c.before.before.before.before.before.before.before.before.before.before.before.before.before.before.before.before.before.before.before.before.before.before.before.requires.1
+frame-requires c κs = frame_asked c.before.before.before.before.before.before.before.before.before.before.before.before.before.before.before.before.before.before.before.before.before.before.before.requires.1
 
 same-length-7 : tie.Need-same-length-7
 same-length-7 c = c.before.before.before.before.before.before.before.before.before.before.before.before.before.frame.auto.1.1.1.0
@@ -64,7 +64,7 @@ returns-3 : tie.Need-returns-3
 returns-3 c = c.keep.ensures _ _ _ _ _ _ c.before.before.before.before.before.before.before.before.before.before.before.before.before.before.before.before.before.before.before.requires.1
 
 read-requires : tie.Need-read-requires
-read-requires c κs = (c.before.before.before.before.before.before.before.before.before.before.before.before.before.before.before.before.before.before.before.before.before.before.before.requires.0, reads-next c.before.before.before.before.before.before.before.before.before.before.before.before.before.before.before.before.before.before.before.before.before.before.before.requires.1)
+read-requires c κs = (c.before.before.before.before.before.before.before.before.before.before.before.before.before.before.before.before.before.before.before.before.before.before.before.requires.0, reads_next c.before.before.before.before.before.before.before.before.before.before.before.before.before.before.before.before.before.before.before.before.before.before.before.requires.1)
 
 same-length-14 : tie.Need-same-length-14
 same-length-14 c = search rules

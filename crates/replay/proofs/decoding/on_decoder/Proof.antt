@@ -3,12 +3,12 @@ use mathlib.Core.Path.{refl, ◌∙◌}
 use Prim.Native.Nat.{◌-◌, ◌≤◌}
 use lib.ListN.{length}
 use Rattle.stores.specs.Rep.{lent}
-use Rattle.nonemitting.specs.Expand.{graphTables}
+use Rattle.nonemitting.specs.Expand.{graph_tables}
 use Rattle.replay_places.specs.Held.{Held}
-use Rattle.replay.specs.Places.{record-from, stops-behind}
-use Rattle.replay_calls.specs.Held.{answered-next}
+use Rattle.replay.specs.Places.{record_from, stops_behind}
+use Rattle.replay_calls.specs.Held.{answered_next}
 use Rattle.replay.specs.AsLong.{AsLong}
-use Rattle.script.specs.Words.{wordCount}
+use Rattle.script.specs.Words.{word_count}
 use borrow.Author.Rules.{rules}
 use native.Mathlib.Omega.{arith}
 use Rattle.replay.proofs.decoding.on_decoder.Statement.{statement}
@@ -16,11 +16,11 @@ use Rattle.replay.proofs.decoding.on_decoder.Tie as tie
 
 abbrev invariant-loop : tie.invariant-loop
 invariant-loop calls from loan tokens₀ sums₀ records₀ labels₀ gaps₀ queue₀ scratch₀ eps offsets ilabels olabels weights nextstates finals tid2pdf tid2phone start pdfs d₀ at₀ tokens sums records labels gaps queue scratch d at =
-    (from ≤ at) × Held (graphTables offsets ilabels olabels weights nextstates tid2pdf tid2phone) (lent tokens sums records labels gaps) finals eps (length queue) (length scratch) d × AsLong tokens₀ tokens sums₀ sums records₀ records labels₀ labels gaps₀ gaps queue₀ queue scratch₀ scratch
+    (from ≤ at) × Held (graph_tables offsets ilabels olabels weights nextstates tid2pdf tid2phone) (lent tokens sums records labels gaps) finals eps (length queue) (length scratch) d × AsLong tokens₀ tokens sums₀ sums records₀ records labels₀ labels gaps₀ gaps queue₀ queue scratch₀ scratch
 
 abbrev decreases-loop : tie.decreases-loop
 decreases-loop calls from loan tokens₀ sums₀ records₀ labels₀ gaps₀ queue₀ scratch₀ eps offsets ilabels olabels weights nextstates finals tid2pdf tid2phone start pdfs d₀ at₀ tokens sums records labels gaps queue scratch d at =
-    wordCount calls - at
+    word_count calls - at
 
 loop-holds : tie.Need-loop-init invariant-loop decreases-loop
 loop-holds c = (omega arith, c.before.before.before.before.before.before.before.before.before.before.before.before.requires, record { tokens = refl; sums = refl; records = refl; labels = refl; gaps = refl; queue = refl; scratch = refl })
@@ -32,10 +32,10 @@ enum-known-r : tie.Need-enum-known-r invariant-loop decreases-loop
 enum-known-r c = search rules
 
 add_at : tie.Need-overflow-add-at invariant-loop decreases-loop
-add_at c = let h = rw c.before.before.r.given.1 at (record-from _ _ _ c.before.before.before.before.record-at.ensures) in omega (arith, h)
+add_at c = let h = rw c.before.before.r.given.1 at (record_from _ _ _ c.before.before.before.before.record-at.ensures) in omega (arith, h)
 
 try-new-requires : tie.Need-try-new-requires invariant-loop decreases-loop
-try-new-requires c κs = (rw c.before.before.r.given.1 at (record-from _ _ _ c.before.before.before.before.record-at.ensures)).1
+try-new-requires c κs = (rw c.before.before.r.given.1 at (record_from _ _ _ c.before.before.before.before.record-at.ensures)).1
 
 enum-known-stop : tie.Need-enum-known-stop invariant-loop decreases-loop
 enum-known-stop c = search rules
@@ -62,31 +62,31 @@ same-length-7 : tie.Need-same-length-7 invariant-loop decreases-loop
 same-length-7 c = c.before.before.before.before.before.before.before.before.before.loop.invariant.2.scratch
 
 returns : tie.Need-returns invariant-loop decreases-loop
-returns c = let h = rw c.before.before.before.before.before.before.r.given.1 at (record-from _ _ _ c.before.before.before.before.before.before.before.before.record-at.ensures) in stops-behind c.before.before.before.before.before.before.before.before.before.before.before.before.before.before.before.before.before.before.before.before.before.before.args.calls.now c.before.before.before.before.before.before.before.before.before.before.before.before.before.before.before.before.before.before.before.before.before.before.args.from c.before.before.before.before.before.before.r.given.0.0 c.before.stop.given.0.0 (rw c.before.stop.given.1 at c.before.before.before.try-new.ensures) (omega (arith, h, c.before.before.before.before.before.before.before.before.before.loop.invariant.0)) h.1
+returns c = let h = rw c.before.before.before.before.before.before.r.given.1 at (record_from _ _ _ c.before.before.before.before.before.before.before.before.record-at.ensures) in stops_behind c.before.before.before.before.before.before.before.before.before.before.before.before.before.before.before.before.before.before.before.before.before.before.args.calls.now c.before.before.before.before.before.before.before.before.before.before.before.before.before.before.before.before.before.before.before.before.before.before.args.from c.before.before.before.before.before.before.r.given.0.0 c.before.stop.given.0.0 (rw c.before.stop.given.1 at c.before.before.before.try-new.ensures) (omega (arith, h, c.before.before.before.before.before.before.before.before.before.loop.invariant.0)) h.1
 
 enum_told : tie.Need-enum-told invariant-loop decreases-loop
 enum_told c = search rules
 
 loop-less : tie.Need-loop-smaller invariant-loop decreases-loop
-loop-less c = let h = rw c.before.before.before.before.before.r.given.1 at (record-from _ _ _ c.before.before.before.before.before.before.before.record-at.ensures) in omega (arith, h)
+loop-less c = let h = rw c.before.before.before.before.before.r.given.1 at (record_from _ _ _ c.before.before.before.before.before.before.before.record-at.ensures) in omega (arith, h)
 
 loop-again : tie.Need-loop-preserved invariant-loop decreases-loop
-loop-again c = let h = rw c.before.before.before.before.before.r.given.1 at (record-from _ _ _ c.before.before.before.before.before.before.before.record-at.ensures) in (omega (arith, h, c.before.before.before.before.before.before.before.before.loop.invariant.0), c.before.before.before.before.before.before.before.before.loop.invariant.1, c.before.before.before.before.before.before.before.before.loop.invariant.2)
+loop-again c = let h = rw c.before.before.before.before.before.r.given.1 at (record_from _ _ _ c.before.before.before.before.before.before.before.record-at.ensures) in (omega (arith, h, c.before.before.before.before.before.before.before.before.loop.invariant.0), c.before.before.before.before.before.before.before.before.loop.invariant.1, c.before.before.before.before.before.before.before.before.loop.invariant.2)
 
 enum-told-2 : tie.Need-enum-told-2 invariant-loop decreases-loop
 enum-told-2 c = search rules
 
 answer-requires : tie.Need-answer-requires invariant-loop decreases-loop
-answer-requires c κs = ((rw c.before.before.before.before.before.before.before.before.before.before.before.before.r.given.1 at (record-from _ _ _ c.before.before.before.before.before.before.before.before.before.before.before.before.before.before.record-at.ensures)).1, c.before.before.before.before.before.before.before.before.before.before.before.before.before.before.before.loop.invariant.1)
+answer-requires c κs = ((rw c.before.before.before.before.before.before.before.before.before.before.before.before.r.given.1 at (record_from _ _ _ c.before.before.before.before.before.before.before.before.before.before.before.before.before.before.record-at.ensures)).1, c.before.before.before.before.before.before.before.before.before.before.before.before.before.before.before.loop.invariant.1)
 
 enum-known-next : tie.Need-enum-known-next invariant-loop decreases-loop
 enum-known-next c = search rules
 
 loop-less-2 : tie.Need-loop-smaller-2 invariant-loop decreases-loop
-loop-less-2 c = let h = rw c.before.before.before.before.before.before.before.before.before.before.before.before.before.before.before.before.before.before.before.before.before.before.before.before.before.before.before.before.before.r.given.1 at (record-from _ _ _ c.before.before.before.before.before.before.before.before.before.before.before.before.before.before.before.before.before.before.before.before.before.before.before.before.before.before.before.before.before.before.before.record-at.ensures) in omega (arith, h)
+loop-less-2 c = let h = rw c.before.before.before.before.before.before.before.before.before.before.before.before.before.before.before.before.before.before.before.before.before.before.before.before.before.before.before.before.before.r.given.1 at (record_from _ _ _ c.before.before.before.before.before.before.before.before.before.before.before.before.before.before.before.before.before.before.before.before.before.before.before.before.before.before.before.before.before.before.before.record-at.ensures) in omega (arith, h)
 
 loop-again-2 : tie.Need-loop-preserved-2 invariant-loop decreases-loop
-loop-again-2 c = let h = rw c.before.before.before.before.before.before.before.before.before.before.before.before.before.before.before.before.before.before.before.before.before.before.before.before.before.before.before.before.before.r.given.1 at (record-from _ _ _ c.before.before.before.before.before.before.before.before.before.before.before.before.before.before.before.before.before.before.before.before.before.before.before.before.before.before.before.before.before.before.before.record-at.ensures) in (omega (arith, h, c.before.before.before.before.before.before.before.before.before.before.before.before.before.before.before.before.before.before.before.before.before.before.before.before.before.before.before.before.before.before.before.before.loop.invariant.0), answered-next _ _ _ _ _ _ _ _ _ _ c.before.before.before.before.before.before.before.before.before.before.before.before.before.before.before.before.answer.ensures c.before.next.given.1 c.before.before.before.before.before.before.before.before.before.before.before.before.before.before.before.before.answer.auto.1.1.1.1.1.1.1.1.0 c.before.before.before.before.before.before.before.before.before.before.before.before.before.before.before.before.answer.auto.1.1.1.1.1.1.1.1.1.0, record { tokens = c.before.before.before.before.before.before.before.before.before.before.before.before.before.before.before.before.answer.auto.1.1.1.0 ∙ c.before.before.before.before.before.before.before.before.before.before.before.before.before.before.before.before.before.before.before.before.before.before.before.before.before.before.before.before.before.before.before.before.loop.invariant.2.tokens; sums = c.before.before.before.before.before.before.before.before.before.before.before.before.before.before.before.before.answer.auto.1.1.1.1.0 ∙ c.before.before.before.before.before.before.before.before.before.before.before.before.before.before.before.before.before.before.before.before.before.before.before.before.before.before.before.before.before.before.before.before.loop.invariant.2.sums; records = c.before.before.before.before.before.before.before.before.before.before.before.before.before.before.before.before.answer.auto.1.1.1.1.1.0 ∙ c.before.before.before.before.before.before.before.before.before.before.before.before.before.before.before.before.before.before.before.before.before.before.before.before.before.before.before.before.before.before.before.before.loop.invariant.2.records; labels = c.before.before.before.before.before.before.before.before.before.before.before.before.before.before.before.before.answer.auto.1.1.1.1.1.1.0 ∙ c.before.before.before.before.before.before.before.before.before.before.before.before.before.before.before.before.before.before.before.before.before.before.before.before.before.before.before.before.before.before.before.before.loop.invariant.2.labels; gaps = c.before.before.before.before.before.before.before.before.before.before.before.before.before.before.before.before.answer.auto.1.1.1.1.1.1.1.0 ∙ c.before.before.before.before.before.before.before.before.before.before.before.before.before.before.before.before.before.before.before.before.before.before.before.before.before.before.before.before.before.before.before.before.loop.invariant.2.gaps; queue = c.before.before.before.before.before.before.before.before.before.before.before.before.before.before.before.before.answer.auto.1.1.1.1.1.1.1.1.0 ∙ c.before.before.before.before.before.before.before.before.before.before.before.before.before.before.before.before.before.before.before.before.before.before.before.before.before.before.before.before.before.before.before.before.loop.invariant.2.queue; scratch = c.before.before.before.before.before.before.before.before.before.before.before.before.before.before.before.before.answer.auto.1.1.1.1.1.1.1.1.1.0 ∙ c.before.before.before.before.before.before.before.before.before.before.before.before.before.before.before.before.before.before.before.before.before.before.before.before.before.before.before.before.before.before.before.before.loop.invariant.2.scratch })
+loop-again-2 c = let h = rw c.before.before.before.before.before.before.before.before.before.before.before.before.before.before.before.before.before.before.before.before.before.before.before.before.before.before.before.before.before.r.given.1 at (record_from _ _ _ c.before.before.before.before.before.before.before.before.before.before.before.before.before.before.before.before.before.before.before.before.before.before.before.before.before.before.before.before.before.before.before.record-at.ensures) in (omega (arith, h, c.before.before.before.before.before.before.before.before.before.before.before.before.before.before.before.before.before.before.before.before.before.before.before.before.before.before.before.before.before.before.before.before.loop.invariant.0), answered_next _ _ _ _ _ _ _ _ _ _ c.before.before.before.before.before.before.before.before.before.before.before.before.before.before.before.before.answer.ensures c.before.next.given.1 c.before.before.before.before.before.before.before.before.before.before.before.before.before.before.before.before.answer.auto.1.1.1.1.1.1.1.1.0 c.before.before.before.before.before.before.before.before.before.before.before.before.before.before.before.before.answer.auto.1.1.1.1.1.1.1.1.1.0, record { tokens = c.before.before.before.before.before.before.before.before.before.before.before.before.before.before.before.before.answer.auto.1.1.1.0 ∙ c.before.before.before.before.before.before.before.before.before.before.before.before.before.before.before.before.before.before.before.before.before.before.before.before.before.before.before.before.before.before.before.before.loop.invariant.2.tokens; sums = c.before.before.before.before.before.before.before.before.before.before.before.before.before.before.before.before.answer.auto.1.1.1.1.0 ∙ c.before.before.before.before.before.before.before.before.before.before.before.before.before.before.before.before.before.before.before.before.before.before.before.before.before.before.before.before.before.before.before.before.loop.invariant.2.sums; records = c.before.before.before.before.before.before.before.before.before.before.before.before.before.before.before.before.answer.auto.1.1.1.1.1.0 ∙ c.before.before.before.before.before.before.before.before.before.before.before.before.before.before.before.before.before.before.before.before.before.before.before.before.before.before.before.before.before.before.before.before.loop.invariant.2.records; labels = c.before.before.before.before.before.before.before.before.before.before.before.before.before.before.before.before.answer.auto.1.1.1.1.1.1.0 ∙ c.before.before.before.before.before.before.before.before.before.before.before.before.before.before.before.before.before.before.before.before.before.before.before.before.before.before.before.before.before.before.before.before.loop.invariant.2.labels; gaps = c.before.before.before.before.before.before.before.before.before.before.before.before.before.before.before.before.answer.auto.1.1.1.1.1.1.1.0 ∙ c.before.before.before.before.before.before.before.before.before.before.before.before.before.before.before.before.before.before.before.before.before.before.before.before.before.before.before.before.before.before.before.before.loop.invariant.2.gaps; queue = c.before.before.before.before.before.before.before.before.before.before.before.before.before.before.before.before.answer.auto.1.1.1.1.1.1.1.1.0 ∙ c.before.before.before.before.before.before.before.before.before.before.before.before.before.before.before.before.before.before.before.before.before.before.before.before.before.before.before.before.before.before.before.before.loop.invariant.2.queue; scratch = c.before.before.before.before.before.before.before.before.before.before.before.before.before.before.before.before.answer.auto.1.1.1.1.1.1.1.1.1.0 ∙ c.before.before.before.before.before.before.before.before.before.before.before.before.before.before.before.before.before.before.before.before.before.before.before.before.before.before.before.before.before.before.before.before.loop.invariant.2.scratch })
 
 enum-told-3 : tie.Need-enum-told-3 invariant-loop decreases-loop
 enum-told-3 c = search rules

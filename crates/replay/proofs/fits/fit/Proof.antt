@@ -1,7 +1,7 @@
 -- `replay::fits::fit` meets its contract: a new decoder and its stores are as the fit leaves them.
 use mathlib.Core.Path.{refl, ◌∙◌}
 use native.Mathlib.Omega.{arith}
-use Rattle.replay_calls.specs.Held.{fitted-next}
+use Rattle.replay_calls.specs.Held.{fitted_next}
 use borrow.Author.Rules.{rules}
 use Rattle.replay.proofs.fits.fit.Statement.{statement}
 use Rattle.replay.proofs.fits.fit.Tie as tie
@@ -22,7 +22,7 @@ add-on-decoder : tie.Need-overflow-add-on-decoder
 add-on-decoder c = record { fits = omega (arith, c.before.before.before.before.before.before.before.before.before.before.before.before.before.before.before.before.before.before.before.before.before.before.before.before.before.before.before.before.before.before.before.before.before.before.before.before.before.before.before.before.requires, c.before.before.before.before.before.before.before.before.before.before.before.before.before.before.before.before.before.before.before.before.before.before.before.before.before.before.before.before.before.before.before.before.before.before.before.before.before.before.before.before.well-formed.0.1) }
 
 on-decoder-requires : tie.Need-on-decoder-requires
-on-decoder-requires c κs = fitted-next _ _ _ _ _ _ _ c.before.before.before.before.before.before.before.before.before.before.before.before.before.before.before.before.before.before.before.before.before.before.before.before.before.before.fit.result c.before.before.before.before.before.before.before.before.before.before.before.before.say-fitted.result _ c.before.before.before.before.before.before.before.before.before.before.before.before.before.before.before.before.before.before.before.before.before.before.before.before.before.before.fit.ensures c.before.before.before.before.before.before.before.before.before.before.before.before.say-fitted.ensures c.before.before.before.before.before.before.before.before.before.before.d.given.1 c.before.before.before.before.before.before.before.before.before.before.before.before.before.before.before.before.before.before.before.before.before.before.before.before.before.before.fit.auto.1.1.1.1.1.0
+on-decoder-requires c κs = fitted_next _ _ _ _ _ _ _ c.before.before.before.before.before.before.before.before.before.before.before.before.before.before.before.before.before.before.before.before.before.before.before.before.before.before.fit.result c.before.before.before.before.before.before.before.before.before.before.before.before.say-fitted.result _ c.before.before.before.before.before.before.before.before.before.before.before.before.before.before.before.before.before.before.before.before.before.before.before.before.before.before.fit.ensures c.before.before.before.before.before.before.before.before.before.before.before.before.say-fitted.ensures c.before.before.before.before.before.before.before.before.before.before.d.given.1 c.before.before.before.before.before.before.before.before.before.before.before.before.before.before.before.before.before.before.before.before.before.before.before.before.before.before.fit.auto.1.1.1.1.1.0
 
 enum_told : tie.Need-enum-told
 enum_told c = search rules

@@ -1,5 +1,5 @@
 -- `replay::graphs::on_graph` meets its contract: each run of calls ends further on.
-use Rattle.replay.specs.Places.{Behind, behind-from, ahead, fewer-ahead}
+use Rattle.replay.specs.Places.{Behind, behind_from, ahead, fewer_ahead}
 use borrow.Author.Rules.{rules}
 use native.Mathlib.Omega.{arith}
 use Rattle.replay.proofs.graphs.on_graph.Statement.{statement}
@@ -26,10 +26,10 @@ with-stores-requires : tie.Need-with-stores-requires invariant-loop decreases-lo
 with-stores-requires c κs = (rw c.before.stop.given.1 at c.before.before.before.loop.invariant).1
 
 loop-less : tie.Need-loop-smaller invariant-loop decreases-loop
-loop-less c = let h = rw c.before.before.stop.given.1 at c.before.before.before.before.loop.invariant in rw c.before.before.stop.given.1 (fewer-ahead c.before.before.before.before.before.before.before.before.before.before.before.args.calls.now c.before.before.stop.given.0.0 c.with-stores.result h.1 c.with-stores.ensures)
+loop-less c = let h = rw c.before.before.stop.given.1 at c.before.before.before.before.loop.invariant in rw c.before.before.stop.given.1 (fewer_ahead c.before.before.before.before.before.before.before.before.before.before.before.args.calls.now c.before.before.stop.given.0.0 c.with-stores.result h.1 c.with-stores.ensures)
 
 loop-again : tie.Need-loop-preserved invariant-loop decreases-loop
-loop-again c = let h = rw c.before.before.stop.given.1 at c.before.before.before.before.loop.invariant in behind-from c.before.before.before.before.before.before.before.before.before.before.before.args.calls.now _ c.before.before.before.before.before.before.before.before.before.before.before.args.from c.with-stores.result (omega (arith, h.0)) c.with-stores.ensures
+loop-again c = let h = rw c.before.before.stop.given.1 at c.before.before.before.before.loop.invariant in behind_from c.before.before.before.before.before.before.before.before.before.before.before.args.calls.now _ c.before.before.before.before.before.before.before.before.before.before.before.args.from c.with-stores.result (omega (arith, h.0)) c.with-stores.ensures
 
 returns : tie.Need-returns invariant-loop decreases-loop
 returns c = c.before.loop.invariant

@@ -2,7 +2,7 @@
 use mathlib.Core.Path.{sym}
 use lib.Seq.{length-take-le}
 use native.Mathlib.Omega.{arith}
-use Rattle.replay_places.specs.Held.{fit-held}
+use Rattle.replay_places.specs.Held.{fit_held}
 use borrow.Author.Rules.{rules}
 use Rattle.replay_calls.proofs.calls.fit.Statement.{statement}
 use Rattle.replay_calls.proofs.calls.fit.Tie as tie
@@ -77,7 +77,7 @@ same-length-7 : tie.Need-same-length-7
 same-length-7 c = search rules
 
 returns : tie.Need-returns
-returns c = fit-held c.before.before.before.before.before.before.before.before.before.before.before.before.before.fit.result (length-take-le 4096 c.before.before.before.before.before.before.before.before.before.before.before.before.before.before.before.before.before.before.before.before.before.before.before.before.before.before.before.before.before.before.before.before.before.list-places.result (omega (arith, c.before.before.before.before.before.before.before.before.before.before.before.before.before.before.before.before.before.before.before.before.before.before.before.before.before.before.before.before.before.before.before.before.before.list-places.ensures))) (length-take-le 8192 c.before.before.before.before.before.before.before.before.before.before.before.before.before.before.before.before.before.before.before.before.before.before.before.before.before.before.before.before.before.before.before.before.before.list-places.result (omega (arith, c.before.before.before.before.before.before.before.before.before.before.before.before.before.before.before.before.before.before.before.before.before.before.before.before.before.before.before.before.before.before.before.before.before.list-places.ensures))) c.before.before.before.before.before.before.before.before.before.before.before.before.before.fit.ensures
+returns c = fit_held c.before.before.before.before.before.before.before.before.before.before.before.before.before.fit.result (length-take-le 4096 c.before.before.before.before.before.before.before.before.before.before.before.before.before.before.before.before.before.before.before.before.before.before.before.before.before.before.before.before.before.before.before.before.before.list-places.result (omega (arith, c.before.before.before.before.before.before.before.before.before.before.before.before.before.before.before.before.before.before.before.before.before.before.before.before.before.before.before.before.before.before.before.before.before.list-places.ensures))) (length-take-le 8192 c.before.before.before.before.before.before.before.before.before.before.before.before.before.before.before.before.before.before.before.before.before.before.before.before.before.before.before.before.before.before.before.before.before.list-places.result (omega (arith, c.before.before.before.before.before.before.before.before.before.before.before.before.before.before.before.before.before.before.before.before.before.before.before.before.before.before.before.before.before.before.before.before.before.list-places.ensures))) c.before.before.before.before.before.before.before.before.before.before.before.before.before.fit.ensures
 
 pub fit_spec : {M : Type 1} → statement M
 fit_spec =

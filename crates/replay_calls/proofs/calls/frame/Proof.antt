@@ -3,7 +3,7 @@ use mathlib.Core.Path.{sym, ◌∙◌}
 use lib.Seq.{length-take-le}
 use native.Mathlib.Omega.{arith}
 use borrow.Author.Tests.{not-false}
-use Rattle.replay_calls.specs.Held.{called-left, fits-places}
+use Rattle.replay_calls.specs.Held.{called_left, fits_places}
 use borrow.Author.Rules.{rules}
 use Rattle.replay_calls.proofs.calls.frame.Statement.{statement}
 use Rattle.replay_calls.proofs.calls.frame.Tie as tie
@@ -21,10 +21,10 @@ loglikes-of-requires : tie.Need-loglikes-of-requires
 loglikes-of-requires c κs = search rules
 
 array-share-prefix-loglikes : tie.Need-array-share-prefix-loglikes
-array-share-prefix-loglikes c = let h = fits-places c.before.before.before.before.before.before.before.before.before.before.before.before.before.before.before.before.before.before.before.before.before.args.bytes.now c.before.before.before.before.before.before.before.before.before.before.before.before.before.before.before.before.before.before.before.before.before.args.r.start c.before.before.before.before.before.before.before.before.before.before.before.before.before.before.before.before.before.before.before.before.before.args.r.count 4096 (sym c.before.before.before.before.before.before.before.before.before.can-fill.ensures ∙ not-false _ c.before.before.before.before.before.before.before.before.if1.false) in omega (arith, h, c.before.before.before.before.before.before.before.loglikes-of.ensures)
+array-share-prefix-loglikes c = let h = fits_places c.before.before.before.before.before.before.before.before.before.before.before.before.before.before.before.before.before.before.before.before.before.args.bytes.now c.before.before.before.before.before.before.before.before.before.before.before.before.before.before.before.before.before.before.before.before.before.args.r.start c.before.before.before.before.before.before.before.before.before.before.before.before.before.before.before.before.before.before.before.before.before.args.r.count 4096 (sym c.before.before.before.before.before.before.before.before.before.can-fill.ensures ∙ not-false _ c.before.before.before.before.before.before.before.before.if1.false) in omega (arith, h, c.before.before.before.before.before.before.before.loglikes-of.ensures)
 
 slice-aggregate-frame : tie.Need-slice-aggregate-frame
-slice-aggregate-frame c = let h = fits-places c.before.before.before.before.before.before.before.before.before.before.before.before.before.before.before.before.before.before.before.before.before.before.args.bytes.now c.before.before.before.before.before.before.before.before.before.before.before.before.before.before.before.before.before.before.before.before.before.before.args.r.start c.before.before.before.before.before.before.before.before.before.before.before.before.before.before.before.before.before.before.before.before.before.before.args.r.count 4096 (sym c.before.before.before.before.before.before.before.before.before.before.can-fill.ensures ∙ not-false _ c.before.before.before.before.before.before.before.before.before.if1.false) in sym (length-take-le _ _ (omega (arith, h, c.before.before.before.before.before.before.before.before.loglikes-of.ensures)))
+slice-aggregate-frame c = let h = fits_places c.before.before.before.before.before.before.before.before.before.before.before.before.before.before.before.before.before.before.before.before.before.before.args.bytes.now c.before.before.before.before.before.before.before.before.before.before.before.before.before.before.before.before.before.before.before.before.before.before.args.r.start c.before.before.before.before.before.before.before.before.before.before.before.before.before.before.before.before.before.before.before.before.before.before.args.r.count 4096 (sym c.before.before.before.before.before.before.before.before.before.before.can-fill.ensures ∙ not-false _ c.before.before.before.before.before.before.before.before.before.if1.false) in sym (length-take-le _ _ (omega (arith, h, c.before.before.before.before.before.before.before.before.loglikes-of.ensures)))
 
 frame-requires : tie.Need-frame-requires
 frame-requires c κs = search rules
@@ -54,7 +54,7 @@ same-length-7 : tie.Need-same-length-7
 same-length-7 c = search rules
 
 returns-2 : tie.Need-returns-2
-returns-2 c = called-left _ _ _ _ _ _ _ _ _ c.before.before.before.before.before.before.before.before.before.before.before.before.before.before.frame.ensures.answer c.say-called.ensures
+returns-2 c = called_left _ _ _ _ _ _ _ _ _ c.before.before.before.before.before.before.before.before.before.before.before.before.before.before.frame.ensures.answer c.say-called.ensures
 
 pub frame-spec : {M : Type 1} → statement M
 frame-spec =

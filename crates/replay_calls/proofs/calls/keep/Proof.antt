@@ -1,7 +1,7 @@
 -- `replay_calls::calls::keep` meets its contract: a margin changes no store.
 use mathlib.Core.Bool.{true, false}
 use Rattle.model.specs.Basics.{0f}
-use Rattle.replay_calls.specs.Held.{kept-left}
+use Rattle.replay_calls.specs.Held.{kept_left}
 use borrow.Author.Rules.{rules}
 use Rattle.replay_calls.proofs.calls.keep.Statement.{statement}
 use Rattle.replay_calls.proofs.calls.keep.Tie as tie
@@ -16,7 +16,7 @@ say-called-requires : tie.Need-say-called-requires
 say-called-requires c κs = search rules
 
 returns : tie.Need-returns
-returns c = kept-left _ false 0f _ _ c.before.set-keep.ensures c.say-called.ensures
+returns c = kept_left _ false 0f _ _ c.before.set-keep.ensures c.say-called.ensures
 
 add-word-at : tie.Need-overflow-add-word-at
 add-word-at c = search rules
@@ -34,7 +34,7 @@ say-called-requires-2 : tie.Need-say-called-requires-2
 say-called-requires-2 c κs = search rules
 
 returns-2 : tie.Need-returns-2
-returns-2 c = kept-left _ true c.before.before.float_of.result _ _ c.before.set-keep2.ensures c.say-called2.ensures
+returns-2 c = kept_left _ true c.before.before.float_of.result _ _ c.before.set-keep2.ensures c.say-called2.ensures
 
 say-fault-requires : tie.Need-say-fault-requires
 say-fault-requires c κs = search rules

@@ -1,5 +1,5 @@
 -- `replay_calls::calls::start_again` meets its contract.
-use Rattle.replay_calls.specs.Held.{called-left}
+use Rattle.replay_calls.specs.Held.{called_left}
 use borrow.Author.Rules.{rules}
 use Rattle.replay_calls.proofs.calls.start_again.Statement.{statement}
 use Rattle.replay_calls.proofs.calls.start_again.Tie as tie
@@ -35,7 +35,7 @@ same-length-6 : tie.Need-same-length-6
 same-length-6 c = search rules
 
 returns-2 : tie.Need-returns-2
-returns-2 c = called-left _ _ _ _ _ _ _ _ _ c.before.before.before.before.before.before.before.before.before.before.before.before.start.ensures.answer c.say-called.ensures
+returns-2 c = called_left _ _ _ _ _ _ _ _ _ c.before.before.before.before.before.before.before.before.before.before.before.before.start.ensures.answer c.say-called.ensures
 
 pub start-again-spec : {M : Type 1} → statement M
 start-again-spec =

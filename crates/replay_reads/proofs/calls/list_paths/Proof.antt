@@ -1,5 +1,5 @@
 -- `replay_reads::calls::list_paths` is safe: the scratch has the places that the decoder asks for.
-use Rattle.replay_reads.specs.Reads.{alternatives-lent}
+use Rattle.replay_reads.specs.Reads.{alternatives_lent}
 use borrow.Author.Rules.{rules}
 use Rattle.replay_reads.proofs.calls.list_paths.Statement.{statement}
 use Rattle.replay_reads.proofs.calls.list_paths.Tie as tie
@@ -35,7 +35,7 @@ slice-aggregate-alternatives-5 : tie.Need-slice-aggregate-alternatives-5
 slice-aggregate-alternatives-5 c = search rules
 
 alternatives-requires : tie.Need-alternatives-requires
-alternatives-requires c κs = alternatives-lent _ _ _ _ _ c.before.before.before.before.before.before.before.before.before.before.before.before.before.before.key-places.ensures c.before.before.before.before.before.before.before.before.before.before.before.before.before.state-places.ensures c.before.before.before.before.before.before.before.before.before.before.before.before.state-places2.ensures c.before.before.before.before.before.before.before.before.before.before.before.history-key-places.ensures c.before.before.before.before.before.before.before.before.before.before.list-places.ensures c.before.before.before.before.before.before.before.before.before.before.before.before.before.before.before.before.before.before.before.before.before.before.before.requires
+alternatives-requires c κs = alternatives_lent _ _ _ _ _ c.before.before.before.before.before.before.before.before.before.before.before.before.before.before.key-places.ensures c.before.before.before.before.before.before.before.before.before.before.before.before.before.state-places.ensures c.before.before.before.before.before.before.before.before.before.before.before.before.state-places2.ensures c.before.before.before.before.before.before.before.before.before.before.before.history-key-places.ensures c.before.before.before.before.before.before.before.before.before.before.list-places.ensures c.before.before.before.before.before.before.before.before.before.before.before.before.before.before.before.before.before.before.before.before.before.before.before.requires
 
 enum-known-listed : tie.Need-enum-known-listed
 enum-known-listed c = search rules

@@ -4,7 +4,7 @@ use Prim.Native.Nat.{◌≤◌}
 use native.Mathlib.Omega.{arith}
 use lib.ListN.{length, length-take}
 use lib.Seq.{length-take-le}
-use Rattle.refusal_lines.specs.Laws.{written-fits}
+use Rattle.refusal_lines.specs.Laws.{written_fits}
 use borrow.Author.Rules.{rules}
 use Rattle.replay_stateless.proofs.line_calls.respond.Statement.{statement}
 use Rattle.replay_stateless.proofs.line_calls.respond.Tie as tie
@@ -17,7 +17,7 @@ enum-known-n c = search rules
 
 -- the line is no longer than what holds it
 fits : (c : tie.After-known-told) → c.before.n.given.0.0 ≤ length c.before.before.before.before.before.write-line.new.1.0
-fits c = written-fits _ _ _ _ (rw c.before.n.given.1 at c.before.before.before.before.before.write-line.ensures)
+fits c = written_fits _ _ _ _ (rw c.before.n.given.1 at c.before.before.before.before.before.write-line.ensures)
 
 slice-reshare-prefix-say-line : tie.Need-slice-reshare-prefix-say-line
 slice-reshare-prefix-say-line c = fits c

@@ -6,7 +6,7 @@ use borrow.Author.Tests.{not-false}
 use lib.ListN.{length}
 use lib.Seq.{length-take-le}
 use Rattle.reading_search.specs.Found.{found_below}
-use Rattle.script.specs.Words.{filled-room}
+use Rattle.script.specs.Words.{filled_room}
 use borrow.Author.Rules.{rules}
 use Rattle.replay_stateless.proofs.searches.search.Statement.{statement}
 use Rattle.replay_stateless.proofs.searches.search.Tie as tie
@@ -54,12 +54,12 @@ int-of-requires c κs = search rules
 ends-room : (c : tie.After-int-of) → c.before.before.before.before.before.before.before.before.before.before.before.args.n ≤ length c.before.before.before.before.before.before.before.before.fill-u32.new.1.1.0
 ends-room c =
     let call = c.before.before.before.before.before.before.before.before.fill-u32 in
-    omega (arith, filled-room call.ensures (not-false call.result c.before.before.before.before.before.before.if1.false), call.auto.1.1.0)
+    omega (arith, filled_room call.ensures (not-false call.result c.before.before.before.before.before.before.if1.false), call.auto.1.1.0)
 
 words-room : (c : tie.After-int-of) → c.before.before.before.before.before.before.before.before.before.before.before.args.m ≤ length c.before.before.before.before.fill-i32.new.1.1.0
 words-room c =
     let call = c.before.before.before.before.fill-i32 in
-    omega (arith, filled-room call.ensures (not-false call.result c.before.before.if2.false), call.auto.1.1.0)
+    omega (arith, filled_room call.ensures (not-false call.result c.before.before.if2.false), call.auto.1.1.0)
 
 array-share-prefix-ends : tie.Need-array-share-prefix-ends
 array-share-prefix-ends c = ends-room c

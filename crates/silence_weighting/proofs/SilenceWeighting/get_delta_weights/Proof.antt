@@ -2,10 +2,10 @@
 use Prim.Native.Nat.{min, ◌-◌}
 use lib.ListN.{length}
 use Rattle.silence_weighting.specs.Parts.{plan_of}
-use Rattle.model.specs.Silence.{ceilDiv}
+use Rattle.model.specs.Silence.{ceil_div}
 use mathlib.Core.Path.{◌≡◌, sym, ap, ◌∙◌}
 use native.Mathlib.Omega.{arith}
-use Rattle.silence_weighting.proofs.Right.{Within, refused-right, nothing_right, write-fits, write-right}
+use Rattle.silence_weighting.proofs.Right.{Within, refused_right, nothing_right, write_fits, write_right}
 use borrow.Author.Rules.{rules}
 use Rattle.silence_weighting.proofs.SilenceWeighting.get_delta_weights.Statement.{statement}
 use Rattle.silence_weighting.proofs.SilenceWeighting.get_delta_weights.Tie as tie
@@ -21,10 +21,10 @@ planned c =
 -- the window fits
 fits : (c : tie.After-window) →
     let a = c.before.before.before.before.before.before.before.before.before.before.args in
-    Within a.self (ceilDiv (a.num-frames-ready - a.first-decoder-frame) a.self.subsampling) a.status.now a.weights.now a.frames.now a.deltas.now c.window.given.0.0
+    Within a.self (ceil_div (a.num-frames-ready - a.first-decoder-frame) a.self.subsampling) a.status.now a.weights.now a.frames.now a.deltas.now c.window.given.0.0
 fits c =
     let a = c.before.before.before.before.before.before.before.before.before.before.args in
-    write-fits a.self a.num-frames-ready a.first-decoder-frame a.status.now a.weights.now a.frames.now a.deltas.now c.window.given.0.0 c.window.given.0.1.0 (planned c.before.before ∙ c.window.given.1)
+    write_fits a.self a.num-frames-ready a.first-decoder-frame a.status.now a.weights.now a.frames.now a.deltas.now c.window.given.0.0 c.window.given.0.1.0 (planned c.before.before ∙ c.window.given.1)
 
 smaller-requires : tie.Need-smaller-requires
 smaller-requires c κs = search rules
@@ -63,7 +63,7 @@ same-length-2 c = search rules
 returns : tie.Need-returns
 returns c =
     let a = c.before.before.before.before.before.before.before.before.before.before.before.args in
-    refused-right a.self a.num-frames-ready a.first-decoder-frame a.status.now a.weights.now a.frames.now a.deltas.now c.before.number.given.0.0 (planned c.before.before.before ∙ c.before.number.given.1)
+    refused_right a.self a.num-frames-ready a.first-decoder-frame a.status.now a.weights.now a.frames.now a.deltas.now c.before.number.given.0.0 (planned c.before.before.before ∙ c.before.number.given.1)
 
 same-length-3 : tie.Need-same-length-3
 same-length-3 c = search rules
@@ -93,7 +93,7 @@ returns-3 c =
     let a = c.before.before.before.before.before.before.before.before.before.before.before.before.before.before.before.before.before.before.before.before.before.before.before.before.before.before.before.args in
     let wd = c.before.before.before.before.before.before.before.before.before.before.before.write-deltas in
     let g = c.before.before.before.before.before.before.before.before.before.before.before.before.before.before.before.before.before.window.given in
-    write-right a.self a.num-frames-ready a.first-decoder-frame a.status.now a.weights.now a.frames.now a.deltas.now g.0.0 g.0.1.0 c.before.before.before.fill-status.new.0 wd.new.1.1.0 wd.new.1.1.1.0 wd.new.1.1.1.1.0 (planned c.before.before.before.before.before.before.before.before.before.before.before.before.before.before.before.before.before.before.before ∙ g.1) c.before.before.before.fill-status.ensures wd.ensures
+    write_right a.self a.num-frames-ready a.first-decoder-frame a.status.now a.weights.now a.frames.now a.deltas.now g.0.0 g.0.1.0 c.before.before.before.fill-status.new.0 wd.new.1.1.0 wd.new.1.1.1.0 wd.new.1.1.1.1.0 (planned c.before.before.before.before.before.before.before.before.before.before.before.before.before.before.before.before.before.before.before ∙ g.1) c.before.before.before.fill-status.ensures wd.ensures
 
 pub get-delta-weights-spec : {M : Type 1} → statement M
 get-delta-weights-spec =

@@ -9,42 +9,42 @@ use Prim.Native.Nat.{◌+◌, ◌-◌, ◌/◌}
 use native.Mathlib.Omega.{arith}
 use borrow.Author.Rules.{rules}
 use borrow.Author.Tests.{lt-ltb, le-ltb, le-leb, lt-leb}
-use Rattle.model.specs.Silence.{weightingWrong, tooMany}
+use Rattle.model.specs.Silence.{weighting_wrong, too_many}
 use Rattle.silence_weighting.specs.State.{places}
-use Rattle.silence_weighting.specs.Parts.{pick, plan_of, windowOf, deltasOn, Sound}
-use Rattle.silence_weighting.proofs.Limits.{fair, few-frames, sound-window}
+use Rattle.silence_weighting.specs.Parts.{pick, plan_of, window_of, deltas_on, Sound}
+use Rattle.silence_weighting.proofs.Limits.{fair, few_frames, sound_window}
 use Rattle.silence_weighting.proofs.SilenceWeighting.plan.Statement.{statement}
 use Rattle.silence_weighting.proofs.SilenceWeighting.plan.Tie as tie
 
 -- the settings are right
-settings : (c : tie.Else1) → weightingWrong c.before.before.before.before.args.self.weight c.before.before.before.before.args.self.subsampling ≡ false
+settings : (c : tie.Else1) → weighting_wrong c.before.before.before.before.args.self.weight c.before.before.before.before.args.self.subsampling ≡ false
 settings c = sym c.before.settings-wrong.ensures ∙ c.if1.false
 
 -- the list's length is tested against the places of both slices
-many : (c : tie.After-too-many) → let a = c.before.before.before.before.before.before.before.args in tooMany (places a.status.now a.weights.now) a.self.frames ≡ c.too_many.result
-many c = let a = c.before.before.before.before.before.before.before.args in sym (c.too_many.ensures ∙ ap (λ n. tooMany n a.self.frames) c.before.before.smaller.ensures)
+many : (c : tie.After-too-many) → let a = c.before.before.before.before.before.before.before.args in too_many (places a.status.now a.weights.now) a.self.frames ≡ c.too_many.result
+many c = let a = c.before.before.before.before.before.before.before.args in sym (c.too_many.ensures ∙ ap (λ n. too_many n a.self.frames) c.before.before.smaller.ensures)
 
 -- and so are the frames needed
 many2 : (c : tie.After-too-many2) →
     let a = c.before.before.before.before.before.before.before.before.before.before.before.before.before.args in
-    tooMany (places a.status.now a.weights.now) ((a.ready - a.first + (a.self.subsampling - 1)) / a.self.subsampling) ≡ c.too-many2.result
+    too_many (places a.status.now a.weights.now) ((a.ready - a.first + (a.self.subsampling - 1)) / a.self.subsampling) ≡ c.too-many2.result
 many2 c =
     let a = c.before.before.before.before.before.before.before.before.before.before.before.before.before.args in
-    sym (c.too-many2.ensures ∙ ap (λ n. tooMany n ((a.ready - a.first + (a.self.subsampling - 1)) / a.self.subsampling)) c.before.before.before.before.before.before.before.before.smaller.ensures)
+    sym (c.too-many2.ensures ∙ ap (λ n. too_many n ((a.ready - a.first + (a.self.subsampling - 1)) / a.self.subsampling)) c.before.before.before.before.before.before.before.before.smaller.ensures)
 
 -- what is counted are the differences of the definition's window
 counted : (c : tie.After-count-deltas) →
     let a = c.before.before.before.before.before.before.before.before.before.before.before.before.before.before.before.before.args in
-    c.count-deltas.result ≡ length (deltasOn (windowOf a.self ((a.ready - a.first + (a.self.subsampling - 1)) / a.self.subsampling) a.first a.status.now a.weights.now) a.status.now a.weights.now)
+    c.count-deltas.result ≡ length (deltas_on (window_of a.self ((a.ready - a.first + (a.self.subsampling - 1)) / a.self.subsampling) a.first a.status.now a.weights.now) a.status.now a.weights.now)
 counted c =
     let a = c.before.before.before.before.before.before.before.before.before.before.before.before.before.before.before.before.args in
-    c.count-deltas.ensures ∙ ap (λ (w : Window). length (deltasOn w a.status.now a.weights.now)) c.before.window.ensures
+    c.count-deltas.ensures ∙ ap (λ (w : Window). length (deltas_on w a.status.now a.weights.now)) c.before.window.ensures
 
 -- where all tests before the last have passed, the last decides
 all-passed : (c : tie.After-count-deltas) {short : Bool} →
     let a = c.before.before.before.before.before.before.before.before.before.before.before.before.before.before.before.before.args in
-    let w = windowOf a.self ((a.ready - a.first + (a.self.subsampling - 1)) / a.self.subsampling) a.first a.status.now a.weights.now in
-    ltb a.room c.count-deltas.result ≡ short → plan_of a.self a.ready a.first a.room a.status.now a.weights.now ≡ pick short (Plan.Refused 11) (Plan.Write w (length (deltasOn w a.status.now a.weights.now)))
+    let w = window_of a.self ((a.ready - a.first + (a.self.subsampling - 1)) / a.self.subsampling) a.first a.status.now a.weights.now in
+    ltb a.room c.count-deltas.result ≡ short → plan_of a.self a.ready a.first a.room a.status.now a.weights.now ≡ pick short (Plan.Refused 11) (Plan.Write w (length (deltas_on w a.status.now a.weights.now)))
 unfolding plan_of
 all-passed c e =
     simp (
@@ -114,14 +114,14 @@ returns-6 c = simp (settings c.before.before.before.before.before.before.before.
 window-requires : tie.Need-window-requires
 window-requires c κs =
     let a = c.before.before.before.before.before.before.before.before.before.before.before.before.before.before.args in
-    let h = (few-frames (places a.status.now a.weights.now) a.self.frames (many c.before.before.before.before.before.before.before ∙ c.before.before.before.before.before.before.if2.false)).1 in
+    let h = (few_frames (places a.status.now a.weights.now) a.self.frames (many c.before.before.before.before.before.before.before ∙ c.before.before.before.before.before.before.if2.false)).1 in
     (omega arith, omega arith)
 
 count-deltas-requires : tie.Need-count-deltas-requires
 count-deltas-requires c κs =
     let a = c.before.before.before.before.before.before.before.before.before.before.before.before.before.before.before.args in
     subst (λ (w : Window). Sound w a.status.now a.weights.now) (sym c.window.ensures)
-    (sound-window a.self _ a.first a.status.now a.weights.now (settings c.before.before.before.before.before.before.before.before.before.before.before) (many c.before.before.before.before.before.before.before.before ∙ c.before.before.before.before.before.before.before.if2.false) (many2 c.before.before ∙ c.before.if6.false) c.before.before.before.before.before.if4.false)
+    (sound_window a.self _ a.first a.status.now a.weights.now (settings c.before.before.before.before.before.before.before.before.before.before.before) (many c.before.before.before.before.before.before.before.before ∙ c.before.before.before.before.before.before.before.if2.false) (many2 c.before.before ∙ c.before.if6.false) c.before.before.before.before.before.if4.false)
 
 returns-7 : tie.Need-returns-7
 returns-7 c = sym (all-passed c.before (lt-ltb _ _ c.if7.true))

@@ -1,5 +1,5 @@
 -- `silence_weighting::SilenceWeighting::window` meets its contract: each part is the definition's.
-use Rattle.silence_weighting.proofs.Steps.{window-is}
+use Rattle.silence_weighting.proofs.Steps.{window_is}
 use borrow.Author.Rules.{rules}
 use Rattle.silence_weighting.proofs.SilenceWeighting.window.Statement.{statement}
 use Rattle.silence_weighting.proofs.SilenceWeighting.window.Tie as tie
@@ -28,7 +28,7 @@ returns c =
     let i = c.before.before.frame_at in
     let p = c.before.before.before.before.weight-before in
     let b = c.before.before.before.before.before.window-begin in
-    window-is a.self a.needed a.first a.status.now a.weights.now b.result p.result i.result c.larger.result b.ensures p.ensures i.ensures c.larger.ensures
+    window_is a.self a.needed a.first a.status.now a.weights.now b.result p.result i.result c.larger.result b.ensures p.ensures i.ensures c.larger.ensures
 
 pub window-spec : {M : Type 1} → statement M
 window-spec =
