@@ -15,14 +15,14 @@ use arrivals::{Arrival, Arrived, Going, Setting};
 use tokens::Token;
 
 // The choice of pass. The emitting one has the cost offset and the adaptive beam.
-#[derive(Drop)]
+#[derive(Clone, Copy)]
 pub enum Pass {
     Emitting(f32, f32),
     Nonemitting,
 }
 
 // How far a pass has got: the records, the latest seq, the newest record of the token in hand, the cutoff, and how many states are in the queue.
-#[derive(Drop)]
+#[derive(Clone, Copy)]
 pub struct Work {
     pub used: u32,
     pub seq: u32,
@@ -31,7 +31,7 @@ pub struct Work {
     pub queued: usize,
 }
 
-#[derive(Drop)]
+#[derive(Clone, Copy)]
 pub enum Passed {
     Refused(u32),
     On(Work),

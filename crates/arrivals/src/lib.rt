@@ -16,7 +16,7 @@ use joins::{Keeping, Margin};
 use tokens::Token;
 
 // What an arc brings to its target: its total, the graph sum, its word (0 for none), the phone it is in, and the target.
-#[derive(Drop)]
+#[derive(Clone, Copy)]
 pub struct Arrival {
     pub total: f32,
     pub graph: f32,
@@ -26,7 +26,7 @@ pub struct Arrival {
 }
 
 // What stands still during a pass: the table in progress, the number of states, the places for records, the frame, and the keep margin, if there is one.
-#[derive(Drop)]
+#[derive(Clone, Copy)]
 pub struct Setting {
     pub side: u32,
     pub states: u32,
@@ -37,7 +37,7 @@ pub struct Setting {
 }
 
 // What an arc meets: a total at or above the cutoff, a state with no token, or one whose token it beats, or does not, by a gap.
-#[derive(Drop)]
+#[derive(Clone, Copy)]
 pub enum Meets {
     CutOff,
     Vacant,
@@ -82,7 +82,7 @@ fn is_link(source: Token, a: Arrival) -> bool
 }
 
 // A winner's newest record, and how many records there are then.
-#[derive(Drop)]
+#[derive(Clone, Copy)]
 pub enum PutOn {
     Refused(u32),
     On(u32, u32),
@@ -124,14 +124,14 @@ fn put_on(
 }
 
 // How many records there are, and the latest seq.
-#[derive(Drop)]
+#[derive(Clone, Copy)]
 pub struct Counts {
     pub used: u32,
     pub seq: u32,
 }
 
 // What becomes of the state: its token stays, or it has this token, new or with a loser joined to it.
-#[derive(Drop)]
+#[derive(Clone, Copy)]
 pub enum Settled {
     Refused(u32),
     Stays,
@@ -360,7 +360,7 @@ fn make_room(
 }
 
 // How far a pass has got: the records, the latest seq, and the source's newest record, which a compaction renumbers.
-#[derive(Drop)]
+#[derive(Clone, Copy)]
 pub struct Going {
     pub used: u32,
     pub seq: u32,
@@ -368,7 +368,7 @@ pub struct Going {
 }
 
 // What became of the arc: refused, cut off, the state's token stays, it has the arc's, or the arc's is joined to it.
-#[derive(Drop)]
+#[derive(Clone, Copy)]
 pub enum Arrived {
     Refused(u32),
     Cut,

@@ -29,7 +29,7 @@ pub const AT_FRAMES: u32 = 3;
 
 // Whether a call was refused, by which number and where.
 #[repr(C)]
-#[derive(Drop)]
+#[derive(Clone, Copy)]
 pub struct Verdict {
     // 0, or the refusal's
     pub number: u32,
@@ -43,7 +43,7 @@ pub struct Verdict {
 
 // Whether there is a decoder, and if so, the answer of its own start; else why not, and a decoder of zeros.
 #[repr(C)]
-#[derive(Drop)]
+#[derive(Clone, Copy)]
 pub struct Fitting {
     pub fitted: bool,
     pub decoder: Decoder,
@@ -52,7 +52,7 @@ pub struct Fitting {
 
 // The decoder to go on with, refused or not.
 #[repr(C)]
-#[derive(Drop)]
+#[derive(Clone, Copy)]
 pub struct Answer {
     pub decoder: Decoder,
     pub verdict: Verdict,
@@ -60,7 +60,7 @@ pub struct Answer {
 
 // A best path's counts and cost. `found` is false where no token counts; then, and after a refusal, the rest is 0.
 #[repr(C)]
-#[derive(Drop)]
+#[derive(Clone, Copy)]
 pub struct Path {
     pub number: u32,
     pub found: bool,
@@ -71,7 +71,7 @@ pub struct Path {
 
 // How many paths, readings or frames; 0 after a refusal.
 #[repr(C)]
-#[derive(Drop)]
+#[derive(Clone, Copy)]
 pub struct Count {
     pub number: u32,
     pub count: u64,
@@ -79,7 +79,7 @@ pub struct Count {
 
 // The next silence state, and how many differences were written. After a refusal all is 0: go on with the state that there was.
 #[repr(C)]
-#[derive(Drop)]
+#[derive(Clone, Copy)]
 pub struct Silence {
     pub state: SilenceWeighting,
     pub number: u32,
@@ -88,7 +88,7 @@ pub struct Silence {
 
 // A reading's index, from 0. `found` is false where no reading has the word.
 #[repr(C)]
-#[derive(Drop)]
+#[derive(Clone, Copy)]
 pub struct Index {
     pub number: u32,
     pub found: bool,
@@ -97,7 +97,7 @@ pub struct Index {
 
 // The course at a frame, and the remainder. Both are 0 after a refusal.
 #[repr(C)]
-#[derive(Drop)]
+#[derive(Clone, Copy)]
 pub struct CourseAt {
     pub number: u32,
     pub course: u32,

@@ -31,7 +31,7 @@ fn config_wrong(config: Config) -> bool
 }
 
 // The lengths of the slices that are lent to a fitting.
-#[derive(Drop)]
+#[derive(Clone, Copy)]
 pub struct Lengths {
     // kept per state
     pub tokens: usize,

@@ -192,7 +192,7 @@ fn renumber(records: &[u32], tokens: &mut [u32], places: u32)
 }
 
 // How many records there are, and the number of the one in hand.
-#[derive(Drop)]
+#[derive(Clone, Copy)]
 pub struct Made {
     pub used: u32,
     pub x: u32,

@@ -3,7 +3,7 @@ ghost use Rattle.std.specs.Prelude.{◌≡◌, ◌/◌, ◌%◌, ◌<◌};
 ghost use Rattle.courses.specs.Course.{course_at};
 
 // The course and the remainder, or the number of the refusal.
-#[derive(Drop)]
+#[derive(Clone, Copy)]
 pub enum Course {
     At { course: u32, remainder: u32 },
     Refused(u32),

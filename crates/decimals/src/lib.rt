@@ -19,7 +19,7 @@ pub fn write_decimal(number: u32, out: &mut [u8], at: usize) -> usize
 }
 
 // What the bytes are.
-#[derive(Drop)]
+#[derive(Clone, Copy)]
 pub enum Decimal {
     Number(u32),
     Nothing,
@@ -40,7 +40,7 @@ pub fn read_decimal(bytes: &[u8]) -> Decimal
 }
 
 // The last three numbers of a text, each a run of digits, in order; 0 for those that it has not.
-#[derive(Drop)]
+#[derive(Clone, Copy)]
 pub struct Numbers {
     // whether a run goes on
     pub inside: bool,

@@ -23,7 +23,7 @@ use tokens::Token;
 // What the decoder holds beside the lent stores: the graph's counts, the settings, the places for records, the keep margin if there is one, which table the
 // next pass writes (the other one is the finished one), the frames decoded, the latest seq and the records in use.
 #[repr(C)]
-#[derive(Drop)]
+#[derive(Clone, Copy)]
 pub struct Decoder {
     pub graph: Graph,
     pub config: Config,
@@ -37,14 +37,14 @@ pub struct Decoder {
 }
 
 // A call that is accepted or refused; the decoder goes on with either.
-#[derive(Drop)]
+#[derive(Clone, Copy)]
 pub enum Called {
     Done(Decoder),
     Refused(Decoder, Refusal),
 }
 
 // A graph or settings that are refused, or a new decoder, whose own start may be refused.
-#[derive(Drop)]
+#[derive(Clone, Copy)]
 pub enum Fitted {
     Unfit(Refusal),
     Done(Decoder),

@@ -13,7 +13,7 @@ use cutoff::{Config, Cutoff};
 use tokens::Token;
 
 // The next cutoff that a look gives, or 12.
-#[derive(Drop)]
+#[derive(Clone, Copy)]
 pub enum Looked {
     Refused(u32),
     Next(f32),

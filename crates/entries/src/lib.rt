@@ -8,7 +8,7 @@ ghost use Rattle.entries.specs.Ways.{by_way, WayAsks, way_entries, WithinIs, Nex
 use wrapping::wrapping_mul;
 
 // An entry: the hash and number of its words, its two sums, the entry that it goes on with, and the join whose kept history it takes.
-#[derive(Drop)]
+#[derive(Clone, Copy)]
 pub struct Entry {
     pub hash: u64,
     pub len: u32,
@@ -20,7 +20,7 @@ pub struct Entry {
 
 // A way from a join down to the next one, or to the start: the list there, what the way costs, its words' hash, the factor past them and their number, and the join whose
 // kept history it is (0 for none).
-#[derive(Drop)]
+#[derive(Clone, Copy)]
 pub struct Way {
     pub first: u32,
     pub count: u32,

@@ -14,7 +14,7 @@ pub const NO_STATE: u32 = 4_294_967_295;
 
 // What is known of an accepted graph beside its slices: the counts of states and arcs, the start, and the count of pdfs.
 #[repr(C)]
-#[derive(Drop)]
+#[derive(Clone, Copy)]
 pub struct Graph {
     pub states: u32,
     pub arcs: u32,
@@ -22,14 +22,14 @@ pub struct Graph {
     pub pdfs: u32,
 }
 
-#[derive(Drop)]
+#[derive(Clone, Copy)]
 pub enum Built {
     Accepted(Graph),
     Refused(Refusal),
 }
 
 // What a check finds: no fault, or the first one.
-#[derive(Drop)]
+#[derive(Clone, Copy)]
 enum Found {
     Nothing,
     Fault(Refusal),

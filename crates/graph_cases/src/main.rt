@@ -154,7 +154,7 @@ fn starts() {
 
 // ---- one state with one arc
 
-#[derive(Drop)]
+#[derive(Clone, Copy)]
 struct Case {
     label: i32,
     // the bits of the arc's weight, and of the state's final weight
@@ -337,7 +337,7 @@ fn two_faults() {
 
 // ---- three states: one arc, none, and three
 
-#[derive(Drop)]
+#[derive(Clone, Copy)]
 struct Arcs {
     labels: [i32; 4],
     weights: [f32; 4],

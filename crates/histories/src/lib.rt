@@ -44,7 +44,7 @@ fn unsigned_of(w: i32) -> u32
 }
 
 // The hash of words, the factor that shifts a hash past them, and how many there are.
-#[derive(Drop)]
+#[derive(Clone, Copy)]
 pub struct Hashed {
     pub hash: u64,
     pub shift: u64,

@@ -23,7 +23,7 @@ fn join_within(records: &[u32], labels: &[i32], gaps: &[f32], r: u32, slack: f32
 }
 
 // Where two histories meet: at a record (0 where they share none), unless the loser has a kept history above it that fits.
-#[derive(Drop)]
+#[derive(Clone, Copy)]
 enum Meeting {
     At(u32),
     Fits,
@@ -156,14 +156,14 @@ pub fn worth_keeping(
 }
 
 // The keep margin.
-#[derive(Drop)]
+#[derive(Clone, Copy)]
 pub enum Margin {
     Off,
     Within(f32),
 }
 
 // What became of a loser: dropped, kept under a join of this number, or refused, since its join finds the store full.
-#[derive(Drop)]
+#[derive(Clone, Copy)]
 pub enum Keeping {
     Dropped,
     Full,

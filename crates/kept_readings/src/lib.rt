@@ -13,7 +13,7 @@ use histories::Hashed;
 use traceback::{Best, Candidate};
 use wrapping::wrapping_mul;
 
-#[derive(Drop)]
+#[derive(Clone, Copy)]
 pub struct KeptReading {
     pub hash: u64,
     pub len: u32,

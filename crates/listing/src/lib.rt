@@ -38,7 +38,7 @@ fn bound_of(
 }
 
 // How many states are ranked, and how many of them are the first of their word list.
-#[derive(Drop)]
+#[derive(Clone, Copy)]
 pub struct Ranked {
     pub all: usize,
     pub own: usize,
@@ -85,7 +85,7 @@ fn list_own(
 }
 
 // A store that is full, or how many kept readings there are.
-#[derive(Drop)]
+#[derive(Clone, Copy)]
 pub enum KeptFound {
     Full,
     Found(usize),
@@ -230,7 +230,7 @@ fn find_kept(
 }
 
 // How many own groups and kept readings there are.
-#[derive(Drop)]
+#[derive(Clone, Copy)]
 struct Counts {
     own: usize,
     kept: usize,
@@ -395,7 +395,7 @@ fn list_with(
 }
 
 // A store that is full (15), or how many readings there are.
-#[derive(Drop)]
+#[derive(Clone, Copy)]
 pub enum Listing {
     Full,
     Items(usize),

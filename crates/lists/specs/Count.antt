@@ -15,14 +15,17 @@ module _ {A : Type 0} where
 
   -- the list without one of its members
   abbrev without : (x : A) (ys : List A) → x ∈ ys → List A
+  without x [] x'' = elim x'' [ ]
   without x (y ∷ ys) (here e) = ys
   without x (y ∷ ys) (there m) = y ∷ without x ys m
 
   length_without : (x : A) (ys : List A) (m : x ∈ ys) → length ys ≡ suc (length (without x ys m))
+  length_without x [] m = elim m [ ]
   length_without x (y ∷ ys) (here e) = refl
   length_without x (y ∷ ys) (there m) = ap suc (length_without x ys m)
 
   in_without : (x : A) (ys : List A) (m : x ∈ ys) (z : A) → z ∈ ys → (z ≡ x → ⊥) → z ∈ without x ys m
+  in_without x [] m z _ d = elim m [ ]
   in_without x (y ∷ ys) (here e) z (here q) d = absurd (d (q ∙ sym e))
   in_without x (y ∷ ys) (here e) z (there n) d = n
   in_without x (y ∷ ys) (there m) z (here q) d = here q

@@ -20,7 +20,7 @@ use tokens::Token;
 use traceback::{Best, Size};
 
 // A reading: the state of its token, the entry that its path goes on with below the token's newest join (0 for the token's own path), its rank and its cost.
-#[derive(Drop)]
+#[derive(Clone, Copy)]
 struct Reading {
     state: u32,
     entry: u32,
@@ -148,7 +148,7 @@ fn measure_reading(
 }
 
 // Words of readings, and of those that are traced words and segments.
-#[derive(Drop)]
+#[derive(Clone, Copy)]
 struct Totals {
     words: usize,
     traced: usize,
@@ -467,7 +467,7 @@ fn write_all(
 }
 
 // A refusal (6, 15, 11), or how many readings were written.
-#[derive(Drop)]
+#[derive(Clone, Copy)]
 pub enum ReadingList {
     Refused(u32),
     Readings(usize),

@@ -4,7 +4,7 @@ ghost use Rattle.model.specs.Search.{parts_wrong, contains, first_reading};
 ghost use Rattle.reading_search.specs.Found.{found_of, listing};
 
 // The answer: the index, counted from 0, of the first reading that contains the word; that none does; or the number of a refusal.
-#[derive(Drop)]
+#[derive(Clone, Copy)]
 pub enum Found {
     At(usize),
     Nothing,

@@ -245,7 +245,7 @@ fn list_states(
 }
 
 // A refusal (6, 11), or how many paths were written.
-#[derive(Drop)]
+#[derive(Clone, Copy)]
 pub enum Listed {
     Refused(u32),
     Paths(usize),

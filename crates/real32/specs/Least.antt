@@ -43,6 +43,7 @@ least_start x (y ∷ ys) p = le_trans (least (fmin x y) ys) (fmin x y) x (least_
 
 pub least_le : (x : Float) (ys : List Float) (y : Float) → T (real x) → T (real y) → y ∈ ys → T (le (least x ys) y)
 unfolding least
+least_le x [] y p q x5 = elim x5 [ ]
 least_le x (v ∷ ys) y p q (here e) =
     le_trans (least (fmin x v) ys) (fmin x v) y (least_start (fmin x v) ys (fmin_real x v p)) (subst (λ (z : Float). T (le (fmin x v) z)) (sym e) (fmin_r x v p (subst (λ (z : Float). T (real z)) e q)))
 least_le x (v ∷ ys) y p q (there m) = least_le (fmin x v) ys y (fmin_real x v p) q m

@@ -71,7 +71,7 @@ pub fn put_link(
 }
 
 // What a join keeps: the newest record of the kept history, and what the Rust holds beside it.
-#[derive(Drop)]
+#[derive(Clone, Copy)]
 pub struct Kept {
     pub link: u32,
     pub word: i32,

@@ -41,14 +41,14 @@ const LENGTHS: [usize; 23] = [
 ];
 
 // What was written: a line of so many bytes, or nothing, for the refusal with this number.
-#[derive(Drop)]
+#[derive(Clone, Copy)]
 pub enum Written {
     Length(usize),
     Refused(u32),
 }
 
 // What the bytes are.
-#[derive(Drop)]
+#[derive(Clone, Copy)]
 pub enum Read {
     Line(Refusal),
     Nothing,

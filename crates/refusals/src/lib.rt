@@ -1,7 +1,7 @@
 // Refusals: their numbers, their places, and the limits that they are judged by.
 
 // Where a refusal was met.
-#[derive(Drop)]
+#[derive(Clone, Copy)]
 pub enum Place {
     Nowhere,
     // a state, and an arc counted within it
@@ -12,7 +12,7 @@ pub enum Place {
 }
 
 // A number, and where it was met.
-#[derive(Drop)]
+#[derive(Clone, Copy)]
 pub struct Refusal {
     pub number: u32,
     pub place: Place,

@@ -115,7 +115,7 @@ fn before_fit(
 }
 
 // What a record is beside a decoder's calls.
-#[derive(Drop)]
+#[derive(Clone, Copy)]
 pub enum Turn {
     // a new graph or decoder, or a call that did not fit
     Stopped(Stop),

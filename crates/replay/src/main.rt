@@ -18,7 +18,7 @@ use replay_graph::Tried;
 use script::{NextRecord, Record};
 
 // Where a run of calls ends.
-#[derive(Drop)]
+#[derive(Clone, Copy)]
 enum Stop {
     // the script ends, is cut short, or does not fit
     End,

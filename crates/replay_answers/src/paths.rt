@@ -6,7 +6,7 @@ use crate::{ALTERNATIVES, BEST, cost_at, label_at, least, less, word_at};
 use libc::STDOUT_FILENO;
 
 // Where the words and the segments of the first paths end.
-#[derive(Drop)]
+#[derive(Clone, Copy)]
 pub struct Ends {
     pub words: usize,
     pub segments: usize,

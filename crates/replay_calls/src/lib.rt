@@ -12,7 +12,7 @@ use replay_answers::FIT;
 use replay_payloads::Loan;
 
 // The decoder after a call, or a call that did not fit.
-#[derive(Drop)]
+#[derive(Clone, Copy)]
 pub enum Answered {
     Next(Decoder),
     Over,

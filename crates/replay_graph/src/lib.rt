@@ -17,7 +17,7 @@ use script::Record;
 pub use shape::{Part, Shape, shape_of};
 
 // A graph or a fit that was tried.
-#[derive(Drop)]
+#[derive(Clone, Copy)]
 pub enum Tried {
     Taken,
     // refused or misshapen, and nothing changes

@@ -4,13 +4,13 @@ ghost use Rattle.script.specs.Words.{word_count};
 ghost use Rattle.replay_graph.specs.Shapes.{part_at, ShapeIs, fits_here};
 
 // Where a slice's words stand in the script, and how many there are.
-#[derive(Drop)]
+#[derive(Clone, Copy)]
 pub struct Part {
     pub at: usize,
     pub n: usize,
 }
 
-#[derive(Drop)]
+#[derive(Clone, Copy)]
 pub struct Shape {
     pub pdfs: u32,
     pub start: u32,

@@ -67,7 +67,7 @@ pub fn config_of(bytes: &[u8], start: usize) -> Config
 }
 
 // How much of the stores is lent, and whether that is all that the script asks for.
-#[derive(Drop)]
+#[derive(Clone, Copy)]
 pub struct Loan {
     pub places: usize,
     pub records: usize,
@@ -133,7 +133,7 @@ pub fn list_fits(bytes: &[u8], r: Record, used: usize) -> bool
 // ---- readings
 
 // How much of the stores and of the output is lent.
-#[derive(Drop)]
+#[derive(Clone, Copy)]
 pub struct Lengths {
     pub below: usize,
     pub kept: usize,

@@ -22,7 +22,7 @@ const ACTIVE: u32 = 24;
 const TOO_SHORT: u32 = 11;
 
 // A silence state of the script.
-#[derive(Drop)]
+#[derive(Clone, Copy)]
 struct Held {
     state: SilenceWeighting,
     // how many frames its store holds
@@ -33,7 +33,7 @@ struct Held {
 }
 
 // What the script has made so far.
-#[derive(Drop)]
+#[derive(Clone, Copy)]
 enum Made {
     Nothing,
     One(Held),
@@ -332,7 +332,7 @@ fn after_deltas(
 }
 
 // The lengths of two lists: silence phones and segments.
-#[derive(Drop)]
+#[derive(Clone, Copy)]
 enum Lists {
     Lengths(usize, usize),
     Misshapen,

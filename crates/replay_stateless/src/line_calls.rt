@@ -19,7 +19,7 @@ const WORDS: usize = 5;
 // ---- written
 
 // The refusal of a payload.
-#[derive(Drop)]
+#[derive(Clone, Copy)]
 enum Given {
     Whole(Refusal),
     Misshapen,

@@ -16,7 +16,7 @@ pub(crate) const SEARCH: u32 = 12;
 const FIXED: usize = 3;
 
 // The lengths of a search's two lists.
-#[derive(Drop)]
+#[derive(Clone, Copy)]
 enum Lists {
     Lengths(usize, usize),
     Misshapen,

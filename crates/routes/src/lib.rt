@@ -12,7 +12,7 @@ ghost use Rattle.routes.specs.Counts.{count_at, Counts};
 ghost use Rattle.routes.specs.Entries.{JoinPut, RouteAsks, RouteIs};
 
 // A word, and the record to go on from; word 0 at the end.
-#[derive(Drop)]
+#[derive(Clone, Copy)]
 pub struct Word {
     pub word: i32,
     pub next: u32,

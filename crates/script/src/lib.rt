@@ -103,7 +103,7 @@ pub fn long_at(bytes: &[u8], at: usize) -> u64
 
 // ---- records
 
-#[derive(Drop)]
+#[derive(Clone, Copy)]
 pub struct Record {
     pub kind: u32,
     // where its payload starts, and how many words it has
@@ -111,7 +111,7 @@ pub struct Record {
     pub count: usize,
 }
 
-#[derive(Drop)]
+#[derive(Clone, Copy)]
 pub enum NextRecord {
     Whole(Record),
     // the bytes end within the record

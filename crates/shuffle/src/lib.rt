@@ -3,7 +3,7 @@ ghost use Rattle.std.specs.Prelude.{◌≡◌};
 ghost use Rattle.shuffle.specs.Block.{wrong, shuffled, unshuffled, Rearranged};
 
 // Whether the output was written, or the number of the refusal.
-#[derive(Drop)]
+#[derive(Clone, Copy)]
 pub enum Shuffled {
     Done,
     Refused(u32),

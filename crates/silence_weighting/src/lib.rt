@@ -14,7 +14,7 @@ const WINDOW: usize = 100;
 
 // The state of the silence weights. A call takes it and gives the next one back.
 #[repr(C)]
-#[derive(Drop)]
+#[derive(Clone, Copy)]
 pub struct SilenceWeighting {
     // the weight of silence
     pub weight: f32,
@@ -25,14 +25,14 @@ pub struct SilenceWeighting {
 }
 
 // The next state, or the number of a refusal.
-#[derive(Drop)]
+#[derive(Clone, Copy)]
 pub enum Next {
     Refused(u32),
     State(SilenceWeighting),
 }
 
 // The next state, with `count` differences in the lent output.
-#[derive(Drop)]
+#[derive(Clone, Copy)]
 pub enum Weighed {
     Refused(u32),
     Deltas {
@@ -42,14 +42,14 @@ pub enum Weighed {
 }
 
 // How many frames the silence at the end has.
-#[derive(Drop)]
+#[derive(Clone, Copy)]
 pub enum Trailing {
     Refused(u32),
     Frames(u64),
 }
 
 // A frame of the list.
-#[derive(Drop)]
+#[derive(Clone, Copy)]
 struct Frame {
     known: bool,
     silence: bool,
@@ -57,7 +57,7 @@ struct Frame {
 }
 
 // The frames that get a weight: from `begin` up to `total`. The list has `listed` of them all so far.
-#[derive(Drop)]
+#[derive(Clone, Copy)]
 struct Window {
     // the weight of silence, and of the frame before the window
     silence: f32,
@@ -72,7 +72,7 @@ struct Window {
 }
 
 // A frame of the window: its new weight, the difference, and for how many input frames it is told.
-#[derive(Drop)]
+#[derive(Clone, Copy)]
 struct Step {
     weight: f32,
     delta: f32,
@@ -80,7 +80,7 @@ struct Step {
 }
 
 // What a call of `get_delta_weights` is to do.
-#[derive(Drop)]
+#[derive(Clone, Copy)]
 enum Plan {
     Refused(u32),
     Nothing,

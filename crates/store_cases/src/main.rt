@@ -43,7 +43,7 @@ fn skip(text: &[u8], end: usize, from: usize) -> usize
     end
 }
 
-#[derive(Drop)]
+#[derive(Clone, Copy)]
 struct Number {
     value: u32,
     next: usize,
@@ -72,7 +72,7 @@ fn read_number(text: &[u8], end: usize, from: usize) -> Number
     }
 }
 
-#[derive(Drop)]
+#[derive(Clone, Copy)]
 struct Line {
     op: u8,
     a: u32,
@@ -185,7 +185,7 @@ fn put_on(
 }
 
 // A store's records and places, and the tokens' places.
-#[derive(Drop)]
+#[derive(Clone, Copy)]
 struct Sizes {
     used: u32,
     cap: u32,

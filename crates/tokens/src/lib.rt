@@ -7,7 +7,7 @@ ghost use Rattle.std.specs.Prelude.{◌≡◌, ◌+◌, ◌-◌, ◌*◌, ◌≤
 ghost use Rattle.tokens.specs.Layout.{place_in, active_in, requeued_in, bit_at, held_at, requeued_at, cost_at, cell_at, token_of, marked, TokenPut, Cleared, Requeued, FirstBit, NextBlock, NextActive};
 
 // A token: its two sums, its newest record (0 for none), its phone and its place in the order of making.
-#[derive(Drop)]
+#[derive(Clone, Copy)]
 pub struct Token {
     pub cost: f32,
     pub graph: f32,

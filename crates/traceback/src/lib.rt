@@ -54,7 +54,7 @@ fn lesser(x: f32, y: f32) -> f32
 }
 
 // The least cost, and the least with its final weight: +∞ where there is none.
-#[derive(Drop)]
+#[derive(Clone, Copy)]
 struct Leasts {
     cost: f32,
     ending: f32,
@@ -119,7 +119,7 @@ fn rank_of(c: f32, graph: f32, weight: f32, counts: bool) -> f32
 }
 
 // A token that may be the best: its state, its newest record and seq, its rank, and its cost with the final weight.
-#[derive(Drop)]
+#[derive(Clone, Copy)]
 pub struct Candidate {
     pub state: u32,
     pub link: u32,
@@ -128,7 +128,7 @@ pub struct Candidate {
     pub cost: f32,
 }
 
-#[derive(Drop)]
+#[derive(Clone, Copy)]
 pub enum Best {
     Nobody,
     Token(Candidate),
@@ -215,7 +215,7 @@ pub fn best_token(
 // ---- traces
 
 // What a trace reads of a record: the record to read after it, its frame, word and phone (0 for none); and where a kept history is left, the phone that goes on from the frame `at` (0 for none).
-#[derive(Drop)]
+#[derive(Clone, Copy)]
 pub struct Step {
     pub next: u32,
     pub frame: u32,
@@ -321,7 +321,7 @@ pub fn step_at(records: &[u32], labels: &[i32], route: &[u32], n: u32, r: u32) -
 }
 
 // The oldest segment so far, and how many there are. Where there is none its phone is 0, and its start the number of frames.
-#[derive(Drop)]
+#[derive(Clone, Copy)]
 struct Head {
     count: u32,
     phone: u32,
@@ -361,7 +361,7 @@ fn resumes(head: Head, s: Step) -> u32
 }
 
 // How many words and segments a trace has.
-#[derive(Drop)]
+#[derive(Clone, Copy)]
 pub struct Size {
     pub words: u32,
     pub segments: u32,
@@ -488,7 +488,7 @@ fn too_short(size: Size, words: usize, frames: usize, segments: usize) -> bool
 }
 
 // A refusal (11), or how much was written.
-#[derive(Drop)]
+#[derive(Clone, Copy)]
 pub enum Traced {
     Refused(u32),
     Written(Size),
@@ -521,7 +521,7 @@ pub fn trace(
 }
 
 // A refusal (11), no path since there is no token, or the best path's size and cost.
-#[derive(Drop)]
+#[derive(Clone, Copy)]
 pub enum BestPath {
     Refused(u32),
     Nobody,
