@@ -1,0 +1,24 @@
+-- No mark, then the roots' marks, then all that they reach.
+use Rattle.compaction.proofs.Marking.{same_prev, same_kept_lem, live_marked}
+use native.Mathlib.Omega.{arith}
+use Rattle.compaction.proofs.mark_live.Goals as goal
+
+pub mark_held-requires : goal.mark_held-requires
+mark_held-requires c =
+    let s = c.before.before.before.before.before.before.before in
+    (s.requires.tokens, λ p l. omega (arith, s.requires.held p l, s.requires.room, c.clear_marks.auto.records))
+
+pub spread-requires : goal.spread-requires
+spread-requires c =
+    let s = c.before.before.before.before.before.before.before.before.before.before.before.before.before.before.before in
+    let m = c.mark in
+    let h = c.mark_held in
+    let e = c.clear_marks in (
+      omega (arith, s.requires.room, m.auto.0, h.auto.0, e.auto.0),
+      λ k l. omega (arith, s.requires.prev-low k l, same_prev _ _ m.ensures.same k, same_prev _ _ h.ensures.same k, same_prev _ _ e.ensures.same k),
+      λ k l. omega (arith, s.requires.kept_low k l, same_kept_lem _ _ m.ensures.same k, same_kept_lem _ _ h.ensures.same k, same_kept_lem _ _ e.ensures.same k),
+    )
+
+pub returns : goal.returns
+returns c =
+    live_marked _ _ _ _ _ c.args.tokens.now _ _ _ c.clear_marks.ensures c.mark_held.ensures c.mark.ensures c.spread.ensures

@@ -1,0 +1,38 @@
+-- `decimals::read_decimal` meets its contract: the bytes are compared with the digits of the number that stands in them.
+use mathlib.Core.Path.{◌≡◌, refl, sym, ap, ◌∙◌}
+use native.Mathlib.Omega.{arith}
+use lib.ListN.{take, length-take}
+use Rattle.lists.specs.Tests.{never}
+use Rattle.decimals.specs.declared.Numbers.{Numbers}
+use Rattle.decimals.specs.Numbers.{numbers_in, none}
+use Rattle.decimals.specs.Decimal.{decimal}
+use Rattle.decimals.specs.RoundTrip.{decimal-length, decimal_read}
+use Rattle.decimals.specs.Stored.{stored_front}
+use Rattle.decimals.proofs.read_decimal.Goals as goal
+
+pub write_decimal-end-requires : goal.write_decimal-end-requires
+write_decimal-end-requires c = omega (arith, decimal-length c.numbers_in-number.result.third)
+
+pub slice_bounds-digits-end : goal.slice_bounds-digits-end
+slice_bounds-digits-end c = omega (arith, decimal-length c.numbers_in-number.result.third)
+
+pub slice_bounds-written-end : goal.slice_bounds-written-end
+slice_bounds-written-end c = omega (arith, decimal-length c.numbers_in-number.result.third, length-take c.write_decimal-end.result c.write_decimal-end.new.1.0)
+
+-- what was written is compared
+written : (c : goal.After-same) → take c.write_decimal-end.result c.write_decimal-end.new.1.0 ≡ decimal c.numbers_in-number.result.third
+written c =
+    let call = c.write_decimal-end in
+    let n = c.numbers_in-number.result.third in
+    stored_front (decimal n) call.ensures (omega (arith, decimal-length n))
+
+pub returns-then-same : goal.returns-then-same
+returns-then-same c = (omega arith, sym (written c.before) ∙ c.same.ensures.0 c.if-same.true)
+
+pub returns : goal.returns
+returns c n f d =
+    let s = c.same in
+    let found = c.numbers_in-number in
+    let bs = c.args.bytes.now in
+    let e : found.result.third ≡ n = ap (λ (x : Numbers). x.third) (found.ensures ∙ ap numbers_in (sym d) ∙ decimal_read n none f refl) in
+    never (sym c.if-same.false ∙ s.ensures.1 (written c.before ∙ ap decimal e ∙ d))

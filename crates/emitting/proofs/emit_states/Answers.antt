@@ -1,0 +1,83 @@
+-- The states below s are done; the rest is what the definition does with the other states.
+use mathlib.Core.Path.{refl, ◌∙◌}
+use Prim.Native.Nat.{◌-◌}
+use native.Mathlib.Omega.{arith}
+use Rattle.stores.specs.Rep.{lens_self, lens_then}
+use Rattle.emitting.specs.Emit.{far_start, emit_now, far_next, far_stop, far_end}
+use Rattle.emitting.proofs.emit_states.Goals as goal
+
+pub overflow_sub-side : goal.overflow_sub-side
+overflow_sub-side c = let z = c.requires.ground.pass.side in omega arith
+
+pub next_active-s-requires : goal.next_active-s-requires
+next_active-s-requires c = let z = c.requires.at.stood.places.tokens in (omega arith, omega arith, omega arith)
+
+pub loop-s-init : goal.loop-s-init
+loop-s-init c = let N = c.next_active-s.ensures in (N.upto, N.active, lens_self _, refl, λ G. far_start G _ _ N)
+
+pub emit_state-requires : goal.emit_state-requires
+emit_state-requires c = (emit_now c.requires _ (c.loop-s.invariant.4 c.requires) c.loop-s.invariant.3, (c.loop-s-test.true, c.loop-s.invariant.1 c.loop-s-test.true))
+
+pub shape_of-tokens-in-Refused : goal.shape_of-tokens-in-Refused
+shape_of-tokens-in-Refused c = c.emit_state.auto.tokens ∙ c.loop-s.invariant.2.tokens
+
+pub shape_of-sums-in-Refused : goal.shape_of-sums-in-Refused
+shape_of-sums-in-Refused c = c.emit_state.auto.sums ∙ c.loop-s.invariant.2.sums
+
+pub shape_of-records-in-Refused : goal.shape_of-records-in-Refused
+shape_of-records-in-Refused c = c.emit_state.auto.records ∙ c.loop-s.invariant.2.records
+
+pub shape_of-labels-in-Refused : goal.shape_of-labels-in-Refused
+shape_of-labels-in-Refused c = c.emit_state.auto.labels ∙ c.loop-s.invariant.2.labels
+
+pub shape_of-gaps-in-Refused : goal.shape_of-gaps-in-Refused
+shape_of-gaps-in-Refused c = c.emit_state.auto.gaps ∙ c.loop-s.invariant.2.gaps
+
+pub shape_of-queue-in-Refused : goal.shape_of-queue-in-Refused
+shape_of-queue-in-Refused c = c.emit_state.auto.queue ∙ c.loop-s.invariant.3
+
+pub returns-in-Refused : goal.returns-in-Refused
+returns-in-Refused c = λ G. far_stop G _ (c.loop-s.invariant.4 G) (c.loop-s-test.true, c.loop-s.invariant.1 c.loop-s-test.true) c.loop-s.invariant.3 _ c.emit_state.ensures _ c.in-Refused.is
+
+pub overflow_add-s : goal.overflow_add-s
+overflow_add-s c = let h = c.loop-s-test.true in let k = c.requires.ground.pass.few in record { fits = omega arith }
+
+pub next_active-s-requires-in-loop-s : goal.next_active-s-requires-in-loop-s
+next_active-s-requires-in-loop-s c = let h = c.loop-s-test.true in
+    let z = c.requires.at.stood.places.tokens in
+    let a = c.emit_state.auto.tokens in
+    let b = c.loop-s.invariant.2.tokens in
+    (omega arith, omega arith, omega arith)
+
+pub loop-s-smaller : goal.loop-s-smaller
+loop-s-smaller c = let h = c.loop-s-test.true in let k = c.next_active-s-in-loop-s.ensures.from in omega arith
+
+pub loop-s-preserved : goal.loop-s-preserved
+loop-s-preserved c = let N = c.next_active-s-in-loop-s.ensures in (
+  N.upto,
+  N.active,
+  lens_then c.loop-s.invariant.2 (record { tokens = c.emit_state.auto.tokens; sums = c.emit_state.auto.sums; records = c.emit_state.auto.records; labels = c.emit_state.auto.labels; gaps = c.emit_state.auto.gaps }),
+  c.emit_state.auto.queue ∙ c.loop-s.invariant.3,
+  λ G. far_next G _ (c.loop-s.invariant.4 G) (c.loop-s-test.true, c.loop-s.invariant.1 c.loop-s-test.true) c.loop-s.invariant.3 _ c.emit_state.ensures _ c.in-On.is _ N,
+)
+
+pub shape_of-tokens : goal.shape_of-tokens
+shape_of-tokens c = c.loop-s.invariant.2.tokens
+
+pub shape_of-sums : goal.shape_of-sums
+shape_of-sums c = c.loop-s.invariant.2.sums
+
+pub shape_of-records : goal.shape_of-records
+shape_of-records c = c.loop-s.invariant.2.records
+
+pub shape_of-labels : goal.shape_of-labels
+shape_of-labels c = c.loop-s.invariant.2.labels
+
+pub shape_of-gaps : goal.shape_of-gaps
+shape_of-gaps c = c.loop-s.invariant.2.gaps
+
+pub shape_of-queue : goal.shape_of-queue
+shape_of-queue c = c.loop-s.invariant.3
+
+pub returns : goal.returns
+returns c = λ G. far_end G _ (c.loop-s.invariant.4 G) c.loop-s-test.false

@@ -1,0 +1,25 @@
+-- `fst::check_finals` meets its contract. The invariant: the whole answer is that of the weights ahead.
+use borrow.Author.Rules.{rules}
+use mathlib.Core.Path.{refl, sym, ◌∙◌}
+use Prim.Native.Nat.{◌-◌}
+use native.Mathlib.Omega.{arith}
+use Rattle.fst.proofs.Weights.{all_fair, unfair, fair}
+use Rattle.fst.proofs.check_finals.Goals as goal
+
+pub loop-s-init : goal.loop-s-init
+loop-s-init c = (search rules, refl)
+
+pub returns-then-final_wrong : goal.returns-then-final_wrong
+returns-then-final_wrong c =
+    let d = c.before in
+    let l = d.before.before.before.loop in
+    unfair _ l.s l.invariant.1 (omega arith) (sym c.if-final_wrong.true ∙ d.final-wrong.ensures)
+
+pub loop-s-preserved : goal.loop-s-preserved
+loop-s-preserved c =
+    let d = c.before in
+    let l = d.before.before.before.loop in
+    (search rules, fair _ l.s l.invariant.1 (omega arith) (sym c.if-final_wrong.false ∙ d.final-wrong.ensures))
+
+pub returns : goal.returns
+returns c = all_fair _ c.loop-s.s c.loop-s.invariant.1 (omega arith)

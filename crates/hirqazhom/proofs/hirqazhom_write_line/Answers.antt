@@ -1,0 +1,12 @@
+-- By the line of the refusal that the verdict tells.
+
+use Rattle.hirqazhom.proofs.hirqazhom_write_line.Goals as goal
+
+pub returns : goal.returns
+returns c =
+    let call = c.write_line in
+    record {
+      answer = call.result;
+      is = rw c.refusal_told.ensures at call.ensures;
+      told = c.line_count.ensures;
+    }

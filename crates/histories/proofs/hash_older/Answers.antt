@@ -1,0 +1,15 @@
+-- The hash takes the word, shifted past the newer ones.
+use Rattle.std.proofs.Common.{ap, ◌∙◌}
+use Rattle.model.specs.Basics.{unsigned}
+use Rattle.model.specs.Ints.{back}
+use Rattle.histories.proofs.Steps.{older_is}
+use Rattle.histories.proofs.hash_older.Goals as goal
+
+pub returns : goal.returns
+returns c =
+    let m = c.before.before.before in
+    let u = m.before in
+    let s = u.before in
+    let w = s.args.word in
+    older_is s.args.h w (u.Unsigned-of.ensures ∙ ap unsigned (back w s.ranges.word.sfits)) m.wrapping-mul.ensures c.wrapping_add_u64.ensures
+    c.wrapping_mul-2.ensures

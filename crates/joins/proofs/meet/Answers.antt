@@ -1,0 +1,46 @@
+-- The invariant of both loops is `Walked`: what was passed shares nothing and keeps nothing that fits. The numbers fall.
+use Prim.Native.Nat.{◌-◌}
+use mathlib.Core.Path.{sym, ◌∙◌}
+use Rattle.joins.proofs.Steps.{walked_none, walked_won, walked_lost, walked_fits, walked_met}
+use borrow.Author.Rules.{rules}
+use native.Mathlib.Omega.{arith}
+use Rattle.joins.proofs.meet.Goals as goal
+
+pub apart-init : goal.apart-init
+apart-init c = walked_none _ _ _ _ _ (search rules) (search rules)
+
+pub loop-a-init : goal.loop-a-init
+loop-a-init c = c.apart.invariant
+
+pub loop-a-smaller : goal.loop-a-smaller
+loop-a-smaller c =
+    let l = c.before.before.before in
+    let s = l.before.before.before.before in
+    omega (arith, s.requires.0.prev-low (l.loop.a - 1) (omega arith))
+
+pub loop-a-preserved : goal.loop-a-preserved
+loop-a-preserved c =
+    let l = c.before.before.before in
+    let s = l.before.before.before.before in
+    walked_won (l.loop.a - 1) s.requires.0.prev-low c.prev_of-a.ensures (omega arith) (omega arith) l.loop.invariant
+
+pub returns-then-join_within : goal.returns-then-join_within
+returns-then-join_within c =
+    let l = c.before.before.before in
+    walked_fits (l.before.apart.b - 1) (omega arith) (omega arith) (sym c.join_within.ensures ∙ c.if-join_within.true) l.loop.invariant
+
+pub apart-smaller : goal.apart-smaller
+apart-smaller c =
+    let l = c.before.before.before.before in
+    let s = l.before.before.before.before in
+    omega (arith, s.requires.0.prev-low (l.before.apart.b - 1) (omega arith))
+
+pub apart-preserved : goal.apart-preserved
+apart-preserved c =
+    let l = c.before.before.before.before in
+    let s = l.before.before.before.before in
+    walked_lost (l.before.apart.b - 1) s.requires.0.prev-low c.prev_of-b.ensures (omega arith) (omega arith)
+    (sym c.join_within.ensures ∙ c.if-join_within.false) l.loop.invariant
+
+pub returns : goal.returns
+returns c = walked_met c.if-a-b.true c.loop-a.invariant

@@ -1,0 +1,7 @@
+-- By whether there is a token.
+use Rattle.std.proofs.Common.{sym, ap}
+use Rattle.kept_readings.specs.Heads.{best_within}
+use Rattle.kept_readings.proofs.best_within.Goals as goal
+
+pub returns-in-Token : goal.returns-in-Token
+returns-in-Token c = ap (best_within c.args.bound) (sym c.in-Token.is)

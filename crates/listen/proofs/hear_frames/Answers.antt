@@ -1,0 +1,72 @@
+-- `listen::hear_frames` is safe and ends: between the frames it holds what the last one left.
+use mathlib.Core.Path.{refl, ◌∙◌}
+use Prim.Native.Nat.{◌-◌}
+use lib.ListN.{length}
+use Rattle.stores.specs.Rep.{lent, lens_self, lens_then}
+use Rattle.decoder.specs.Held.{held_asked}
+use Rattle.listen.specs.Held.{frame_asked, frame_hears}
+use native.Mathlib.Omega.{arith}
+use Rattle.listen.proofs.hear_frames.Goals as goal
+
+pub loop-i-init : goal.loop-i-init
+loop-i-init c = (omega arith, c.requires, lens_self _, record { same_length = refl }, record { same_length = refl })
+
+pub frame-requires : goal.frame-requires
+frame-requires c = frame_asked c.loop-i.invariant.1
+
+pub shape_of-tokens-in-Refused : goal.shape_of-tokens-in-Refused
+shape_of-tokens-in-Refused c = c.frame.auto.tokens ∙ c.loop-i.invariant.2.tokens
+
+pub shape_of-sums-in-Refused : goal.shape_of-sums-in-Refused
+shape_of-sums-in-Refused c = c.frame.auto.sums ∙ c.loop-i.invariant.2.sums
+
+pub shape_of-records-in-Refused : goal.shape_of-records-in-Refused
+shape_of-records-in-Refused c = c.frame.auto.records ∙ c.loop-i.invariant.2.records
+
+pub shape_of-labels-in-Refused : goal.shape_of-labels-in-Refused
+shape_of-labels-in-Refused c = c.frame.auto.labels ∙ c.loop-i.invariant.2.labels
+
+pub shape_of-gaps-in-Refused : goal.shape_of-gaps-in-Refused
+shape_of-gaps-in-Refused c = c.frame.auto.gaps ∙ c.loop-i.invariant.2.gaps
+
+pub shape_of-queue-in-Refused : goal.shape_of-queue-in-Refused
+shape_of-queue-in-Refused c = c.frame.auto.queue ∙ c.loop-i.invariant.3.same_length
+
+pub shape_of-scratch-in-Refused : goal.shape_of-scratch-in-Refused
+shape_of-scratch-in-Refused c = c.frame.auto.scratch ∙ c.loop-i.invariant.4.same_length
+
+pub overflow_step-i : goal.overflow_step-i
+overflow_step-i c = record { fits = omega (arith, c.loop-i-test.true) }
+
+pub loop-i-smaller : goal.loop-i-smaller
+loop-i-smaller c = omega (arith, c.loop-i-test.true)
+
+pub loop-i-preserved : goal.loop-i-preserved
+loop-i-preserved c =
+    let F = c.frame.ensures in
+    let I = c.loop-i.invariant in
+    (omega (arith, c.loop-i-test.true), frame_hears F c.in-Done.is I.1, lens_then I.2 F.lent.stores, record { same_length = F.lent.queue.same_length ∙ I.3.same_length }, record { same_length = F.scratch.same_length ∙ I.4.same_length })
+
+pub write_best-requires : goal.write_best-requires
+write_best-requires c = (held_asked c.loop-i.invariant.1.held).best
+
+pub shape_of-tokens : goal.shape_of-tokens
+shape_of-tokens c = c.loop-i.invariant.2.tokens
+
+pub shape_of-sums : goal.shape_of-sums
+shape_of-sums c = c.loop-i.invariant.2.sums
+
+pub shape_of-records : goal.shape_of-records
+shape_of-records c = c.loop-i.invariant.2.records
+
+pub shape_of-labels : goal.shape_of-labels
+shape_of-labels c = c.loop-i.invariant.2.labels
+
+pub shape_of-gaps : goal.shape_of-gaps
+shape_of-gaps c = c.loop-i.invariant.2.gaps
+
+pub shape_of-queue : goal.shape_of-queue
+shape_of-queue c = c.loop-i.invariant.3.same_length
+
+pub shape_of-scratch : goal.shape_of-scratch
+shape_of-scratch c = c.loop-i.invariant.4.same_length

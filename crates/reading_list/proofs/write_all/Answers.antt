@@ -1,0 +1,51 @@
+-- The readings so far.
+use mathlib.Core.Path.{refl, ◌∙◌}
+use native.Mathlib.Omega.{arith}
+use Prim.Native.Nat.{◌-◌}
+use Rattle.reading_list.specs.Writing.{going_none, going_long, line_asks, going_next, going_done}
+use Rattle.reading_list.proofs.write_all.Goals as goal
+
+pub loop-i-init : goal.loop-i-init
+loop-i-init c = (refl, going_none c.requires.0)
+
+pub offset_bounds-list-i : goal.offset_bounds-list-i
+offset_bounds-list-i c = record { fits = let z = c.requires.0.asks.few in omega arith }
+
+pub bounds-list-i : goal.bounds-list-i
+bounds-list-i c = let z = c.requires.0.asks.long in omega arith
+
+pub reading_at-g-requires : goal.reading_at-g-requires
+reading_at-g-requires c = c.requires.0.asks.items _ c.loop-i-test.true
+
+pub write_reading-at-requires : goal.write_reading-at-requires
+write_reading-at-requires c = (line_asks c.requires.0 c.loop-i.invariant.1 c.loop-i-test.true c.reading_at-g.ensures c.loop-i.invariant.0, c.requires.1, c.requires.2)
+
+pub overflow_step-i : goal.overflow_step-i
+overflow_step-i c = record { fits = let z = c.requires.0.asks.few in omega arith }
+
+pub loop-i-smaller : goal.loop-i-smaller
+loop-i-smaller c = omega arith
+
+pub loop-i-preserved : goal.loop-i-preserved
+loop-i-preserved c = (c.write_reading-at.auto.1.1.1.1.1.1.1.1.1.1.1.1.1.1.0 ∙ c.loop-i.invariant.0, going_next c.requires.0 c.loop-i.invariant.1 c.loop-i-test.true c.reading_at-g.ensures c.write_reading-at.ensures)
+
+pub shape_of-route : goal.shape_of-route
+shape_of-route c = c.loop-i.invariant.0
+
+pub shape_of-words : goal.shape_of-words
+shape_of-words c = (going_long c.requires.0 c.loop-i.invariant.1).words
+
+pub shape_of-frames : goal.shape_of-frames
+shape_of-frames c = (going_long c.requires.0 c.loop-i.invariant.1).frames
+
+pub shape_of-segments : goal.shape_of-segments
+shape_of-segments c = (going_long c.requires.0 c.loop-i.invariant.1).segments
+
+pub shape_of-numbers : goal.shape_of-numbers
+shape_of-numbers c = (going_long c.requires.0 c.loop-i.invariant.1).numbers
+
+pub shape_of-costs : goal.shape_of-costs
+shape_of-costs c = (going_long c.requires.0 c.loop-i.invariant.1).costs
+
+pub returns : goal.returns
+returns c = going_done c.requires.0 c.loop-i.invariant.1 c.loop-i-test.false

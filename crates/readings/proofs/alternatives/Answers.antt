@@ -1,0 +1,73 @@
+-- Too many asked for, too short, or written.
+use Rattle.readings.specs.Paths.{outputs}
+use Rattle.readings.specs.Answers.{used_self, used_late, chains_are, fill_asks, write_asks, listed_many, listed_short, listed_written, short_told}
+use Rattle.readings.proofs.alternatives.Goals as goal
+
+pub returns-then-max-gt-MAX_LISTED : goal.returns-then-max-gt-MAX_LISTED
+returns-then-max-gt-MAX_LISTED c = (listed_many c.if-max-gt-MAX_LISTED.true, used_self _)
+
+pub finals_count-counts-requires : goal.finals_count-counts-requires
+finals_count-counts-requires c = (c.requires.0.read.side, c.requires.0.read.tokens)
+
+pub fill-requires : goal.fill-requires
+fill-requires c = (chains_are c.requires.0, c.requires.1, c.requires.2)
+
+pub list_states-k-requires : goal.list_states-k-requires
+list_states-k-requires c = (c.requires.0, c.fill.ensures)
+
+pub measure_all-total-requires : goal.measure_all-total-requires
+measure_all-total-requires c = fill_asks c.requires.0 c.list_states-k.ensures c.if-max-gt-MAX_LISTED.false
+
+pub shape_of-keys-then-too_short : goal.shape_of-keys-then-too_short
+shape_of-keys-then-too_short c = c.list_states-k.auto.1.1.1.1.1.1.1.1.1.1.1.1.0
+
+pub shape_of-places-then-too_short : goal.shape_of-places-then-too_short
+shape_of-places-then-too_short c = c.list_states-k.auto.1.1.1.1.1.1.1.1.1.1.1.1.1.0
+
+pub shape_of-order-then-too_short : goal.shape_of-order-then-too_short
+shape_of-order-then-too_short c = c.list_states-k.auto.1.1.1.1.1.1.1.1.1.1.1.1.1.1.0
+
+pub shape_of-history_keys-then-too_short : goal.shape_of-history_keys-then-too_short
+shape_of-history_keys-then-too_short c = c.fill.auto.1.1.1.0
+
+pub shape_of-history_skips-then-too_short : goal.shape_of-history_skips-then-too_short
+shape_of-history_skips-then-too_short c = c.fill.auto.1.1.1.1.0
+
+pub returns-then-too_short : goal.returns-then-too_short
+returns-then-too_short c = (listed_short c.requires.0 c.list_states-k.ensures c.if-max-gt-MAX_LISTED.false c.measure_all-total.ensures (outputs c.args.words.now c.args.frames.now c.args.segments.now c.args.ends.now c.args.costs.now) c.finals_count-counts.ensures (short_told c.measure_all-total.result c.list_states-k.result (outputs c.args.words.now c.args.frames.now c.args.segments.now c.args.ends.now c.args.costs.now) c.too_short.ensures c.smaller.ensures c.if-too_short.true), used_late c.if-max-gt-MAX_LISTED.false (record { keys = record { same_length = c.list_states-k.auto.1.1.1.1.1.1.1.1.1.1.1.1.0 }; places = record { same_length = c.list_states-k.auto.1.1.1.1.1.1.1.1.1.1.1.1.1.0 }; order = record { same_length = c.list_states-k.auto.1.1.1.1.1.1.1.1.1.1.1.1.1.1.0 }; history-keys = record { same_length = c.fill.auto.1.1.1.0 }; history-skips = record { same_length = c.fill.auto.1.1.1.1.0 } }))
+
+pub write_all-requires : goal.write_all-requires
+write_all-requires c = write_asks c.requires.0 c.list_states-k.ensures c.if-max-gt-MAX_LISTED.false c.measure_all-total.ensures (outputs c.args.words.now c.args.frames.now c.args.segments.now c.args.ends.now c.args.costs.now) (short_told c.measure_all-total.result c.list_states-k.result (outputs c.args.words.now c.args.frames.now c.args.segments.now c.args.ends.now c.args.costs.now) c.too_short.ensures c.smaller.ensures c.if-too_short.false)
+
+pub shape_of-keys : goal.shape_of-keys
+shape_of-keys c = c.list_states-k.auto.1.1.1.1.1.1.1.1.1.1.1.1.0
+
+pub shape_of-places : goal.shape_of-places
+shape_of-places c = c.list_states-k.auto.1.1.1.1.1.1.1.1.1.1.1.1.1.0
+
+pub shape_of-order : goal.shape_of-order
+shape_of-order c = c.list_states-k.auto.1.1.1.1.1.1.1.1.1.1.1.1.1.1.0
+
+pub shape_of-history_keys : goal.shape_of-history_keys
+shape_of-history_keys c = c.fill.auto.1.1.1.0
+
+pub shape_of-history_skips : goal.shape_of-history_skips
+shape_of-history_skips c = c.fill.auto.1.1.1.1.0
+
+pub shape_of-words : goal.shape_of-words
+shape_of-words c = c.write_all.auto.1.1.1.1.1.1.1.1.1.1.1.0
+
+pub shape_of-frames : goal.shape_of-frames
+shape_of-frames c = c.write_all.auto.1.1.1.1.1.1.1.1.1.1.1.1.0
+
+pub shape_of-segments : goal.shape_of-segments
+shape_of-segments c = c.write_all.auto.1.1.1.1.1.1.1.1.1.1.1.1.1.0
+
+pub shape_of-ends : goal.shape_of-ends
+shape_of-ends c = c.write_all.auto.1.1.1.1.1.1.1.1.1.1.1.1.1.1.0
+
+pub shape_of-costs : goal.shape_of-costs
+shape_of-costs c = c.write_all.auto.1.1.1.1.1.1.1.1.1.1.1.1.1.1.1.0
+
+pub returns : goal.returns
+returns c = (listed_written c.requires.0 c.list_states-k.ensures c.if-max-gt-MAX_LISTED.false c.measure_all-total.ensures (outputs c.args.words.now c.args.frames.now c.args.segments.now c.args.ends.now c.args.costs.now) c.finals_count-counts.ensures (short_told c.measure_all-total.result c.list_states-k.result (outputs c.args.words.now c.args.frames.now c.args.segments.now c.args.ends.now c.args.costs.now) c.too_short.ensures c.smaller.ensures c.if-too_short.false) c.write_all.ensures, used_late c.if-max-gt-MAX_LISTED.false (record { keys = record { same_length = c.list_states-k.auto.1.1.1.1.1.1.1.1.1.1.1.1.0 }; places = record { same_length = c.list_states-k.auto.1.1.1.1.1.1.1.1.1.1.1.1.1.0 }; order = record { same_length = c.list_states-k.auto.1.1.1.1.1.1.1.1.1.1.1.1.1.1.0 }; history-keys = record { same_length = c.fill.auto.1.1.1.0 }; history-skips = record { same_length = c.fill.auto.1.1.1.1.0 } }))

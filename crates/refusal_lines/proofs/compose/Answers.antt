@@ -1,0 +1,39 @@
+-- `refusal_lines::compose` meets its contract: the parts behind each other are the line, which fits 96 bytes.
+use mathlib.Core.Path.{refl, sym, ◌∙◌}
+use native.Mathlib.Omega.{arith}
+use borrow.Author.Tests.{not-true, not-false}
+use Rattle.decimals.specs.Stored.{stored_more}
+use Rattle.refusal_lines.specs.Line.{text, numbered, name_of, place_text, heading, line_of}
+use Rattle.refusal_lines.specs.Laws.{name_length, numbered-length, place-length}
+use Rattle.refusal_lines.proofs.compose.Goals as goal
+
+pub returns-then-not-may_have : goal.returns-then-not-may_have
+unfolding line_of
+returns-then-not-may_have c = let call = c.may_have in rw (sym call.ensures ∙ not-true call.result c.if-not-may_have.true) (record { behind = refl; written = refl })
+
+pub put_number-named-requires : goal.put_number-named-requires
+unfolding text
+put_number-named-requires c = omega (arith, numbered-length (text "refusal ") c.args.refusal.number)
+
+pub put_name-placed-requires : goal.put_name-placed-requires
+unfolding text
+put_name-placed-requires c = let n = c.args.refusal.number in omega (arith, numbered-length (text "refusal ") n, name_length n)
+
+pub put_place-requires : goal.put_place-requires
+unfolding text
+put_place-requires c =
+    let x = c.args.refusal in
+    omega (arith, numbered-length (text "refusal ") x.number, name_length x.number, place-length x.place)
+
+pub returns : goal.returns
+unfolding line_of heading text
+returns c =
+    let place = c.before.before in
+    let name = place.before.before.before.before in
+    let number = name.before.before.before.before in
+    let test = number.before.before.before in
+    let call = test.before.may-have in
+    let x = test.before.before.before.args.refusal in
+    let n = x.number in
+    rw (sym call.ensures ∙ not-false call.result test.if1.false)
+    (stored_more (heading n) (place_text x.place) (stored_more (numbered (text "refusal ") n) (name_of n) number.put-number.ensures name.put-name.ensures) place.put-place.ensures)

@@ -1,0 +1,27 @@
+-- `replay_reads::read` meets its contract: what each read asks is among what is asked.
+use mathlib.Core.Path.{refl}
+use Rattle.replay_reads.proofs.read.Goals as goal
+
+pub alternatives-requires : goal.alternatives-requires
+alternatives-requires c = (c.requires.0, c.requires.1.paths)
+
+pub returns-then-r-eq-ALTERNATIVES : goal.returns-then-r-eq-ALTERNATIVES
+returns-then-r-eq-ALTERNATIVES c = λ p q. c.alternatives.ensures (p c.if-r-eq-ALTERNATIVES.true)
+
+pub readings-requires : goal.readings-requires
+readings-requires c = (c.requires.0, c.requires.1.readings)
+
+pub returns-then-r-eq-READINGS : goal.returns-then-r-eq-READINGS
+returns-then-r-eq-READINGS c = λ p q. let h = q c.if-r-eq-READINGS.true in c.readings.ensures h.0 h.1
+
+pub best-requires : goal.best-requires
+best-requires c = (c.requires.0, c.requires.1.best)
+
+pub returns-then-r-eq-BEST : goal.returns-then-r-eq-BEST
+returns-then-r-eq-BEST c = λ p q. refl
+
+pub say_number-requires : goal.say_number-requires
+say_number-requires c = c.requires.1.relative
+
+pub returns : goal.returns
+returns c = λ p q. refl

@@ -1,0 +1,11 @@
+-- `script::fill_f32` meets its contract: after i turns the first i words are in place.
+use Prim.Native.Nat.{◌-◌}
+use lib.Ieee.{binary32, of_bits}
+use Rattle.script.proofs.Fill.{Filling}
+use Rattle.script.proofs.fill_f32.Given as goal
+
+abbrev pub invariant-loop-i : goal.invariant-loop-i
+invariant-loop-i l = Filling (of_bits binary32) l.bytes l.at l.n l.initial.out l.out l.i
+
+abbrev pub decreases-loop-i : goal.decreases-loop-i
+decreases-loop-i l = l.n - l.i

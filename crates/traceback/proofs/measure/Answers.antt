@@ -1,0 +1,45 @@
+-- What is counted so far, and what is still to come.
+use mathlib.Core.Path.{refl, ap, ◌∙◌}
+use mathlib.Core.Logic.{inl, inr}
+use Prim.Native.Nat.{ℕ, ◌-◌}
+use native.Mathlib.Omega.{arith}
+use Rattle.lists.specs.Tests.{case}
+use Rattle.model.specs.Ints.{nonzero_yes, nonzero_no}
+use Rattle.traceback.specs.declared.Step.{Step}
+use Rattle.traceback.specs.declared.Head.{Head}
+use Rattle.traceback.specs.Chain.{head_on}
+use Rattle.traceback.specs.Walk.{step_low, head_few, measuring_none, measuring_next, measuring_end}
+use Rattle.traceback.proofs.measure.Goals as goal
+
+pub loop-r-init : goal.loop-r-init
+loop-r-init c = measuring_none c.args.link _ (record { count = refl; phone = refl; start = refl })
+
+pub step_at-s-requires : goal.step_at-s-requires
+step_at-s-requires c = let few = c.loop-r.invariant.few in
+    let w = c.requires.0 in (omega arith, omega (arith, w.records), omega (arith, w.labels))
+
+pub overflow_add-words : goal.overflow_add-words
+overflow_add-words c = let few = c.loop-r.invariant.few in record { fits = omega (arith, c.requires.0.few) }
+
+pub begin-head-requires : goal.begin-head-requires
+begin-head-requires c = let many = c.loop-r.invariant.many in omega (arith, c.requires.0.few)
+
+pub begin-head-requires-in-loop-r : goal.begin-head-requires-in-loop-r
+begin-head-requires-in-loop-r c = let many = c.loop-r.invariant.many in
+    let l = head_few c.loop-r.head c.resumes.result c.step_at-s.result.at in
+    omega (arith, c.requires.0.few, ap (λ (x : Head). x.count) c.begin-head.ensures)
+
+pub loop-r-smaller : goal.loop-r-smaller
+loop-r-smaller c = let few = c.loop-r.invariant.few in
+    let a = c.args in
+    let l = step_low a.records.now a.labels.now a.route.now a.n a.used c.requires.0 (c.loop-r.r - 1) (omega arith) in
+    omega (arith, ap (λ (s : Step). s.next) c.step_at-s.ensures)
+
+pub loop-r-preserved : goal.loop-r-preserved
+loop-r-preserved c = let s = c.step_at-s.result in
+    measuring_next c.args.link c.requires.0 c.requires.1 s c.loop-r-test.true c.step_at-s.ensures
+    (case c.if-word-ne0.branch (λ x. inl (nonzero_yes s.word x.0.taken, x.1)) (λ x. inr (nonzero_no s.word (record { sfits = c.struct_told-1.given.1.1.0.1 }) x.0.left, x.1)))
+    (c.begin-head.ensures ∙ ap (λ (x : ℕ). head_on c.loop-r.head x s.at) c.resumes.ensures) c.begin-head-in-loop-r.ensures c.loop-r.invariant
+
+pub returns : goal.returns
+returns c = measuring_end c.args.link c.requires.1 c.loop-r-test.false c.loop-r.invariant
