@@ -6,4 +6,4 @@ pub returns-in-Refused : goal.returns-in-Refused
 returns-in-Refused c = fill_refused (rw c.in-Refused.is at c.put_on.ensures)
 
 pub returns-in-On : goal.returns-in-On
-returns-in-On c = rw (c.new_token.ensures, c.wrapping_add_u32-seq.ensures) (fill_wins (rw c.in-On.is at c.put_on.ensures))
+returns-in-On c = rw (c.new_token.ensures, c.wrapping_add_u32-seq.ensures.value) (fill_wins (rw c.in-On.is at c.put_on.ensures))

@@ -18,7 +18,7 @@ loop-i-init c = (omega arith, refl)
 pub returns-then-not-is_tame : goal.returns-then-not-is_tame
 returns-then-not-is_tame c = let ls = c.args.loglikes.now in
     let i = c.loop-i.i in
-    sym (c.loop-i.invariant.1 ∙ all_next tame ls i nan c.loop-i-test.true ∙ ap (λ (b : Bool). b && all tame (drop (i + 1) ls)) (sym c.is_tame.ensures ∙ not-true _ c.if-not-is_tame.true))
+    sym (c.loop-i.invariant.1 ∙ all_next tame ls i nan c.loop-i-test.true ∙ ap (λ (b : Bool). b && all tame (drop (i + 1) ls)) (sym c.is_tame.ensures ∙ c.if-not-is_tame.true))
 
 pub overflow_step-i : goal.overflow_step-i
 overflow_step-i c = record { fits = next_fits _ _ _ c.loop-i-test.true c.well-formed.0.0 }
@@ -30,7 +30,7 @@ pub loop-i-preserved : goal.loop-i-preserved
 loop-i-preserved c = let ls = c.args.loglikes.now in
     let i = c.loop-i.i in
     let h = c.loop-i-test.true in
-    (omega arith, c.loop-i.invariant.1 ∙ all_next tame ls i nan h ∙ ap (λ (b : Bool). b && all tame (drop (i + 1) ls)) (sym c.is_tame.ensures ∙ not-false _ c.if-not-is_tame.false))
+    (omega arith, c.loop-i.invariant.1 ∙ all_next tame ls i nan h ∙ ap (λ (b : Bool). b && all tame (drop (i + 1) ls)) (sym c.is_tame.ensures ∙ c.if-not-is_tame.false))
 
 pub returns : goal.returns
 returns c = let ls = c.args.loglikes.now in sym (c.loop-i.invariant.1 ∙ ap (all tame) (drop_of_length-le ls {i = c.loop-i.i} c.loop-i-test.false))

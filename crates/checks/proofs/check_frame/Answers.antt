@@ -16,7 +16,7 @@ pub returns-then-loglikes-pdfs : goal.returns-then-loglikes-pdfs
 returns-then-loglikes-pdfs c = sym (ap₂ (λ (a b : Bool). numbered a b (not (all tame c.args.loglikes.now))) (lt-leb 65_536 c.args.frames c.if-frames-ge-MAX_FRAMES.false) (ap not (ne_eqb (length c.args.loglikes.now) c.args.pdfs c.if-loglikes-pdfs.true)))
 
 pub returns-then-not-all_tame : goal.returns-then-not-all_tame
-returns-then-not-all_tame c = sym (ap₂ (λ (a b : Bool). numbered a b (not (all tame c.args.loglikes.now))) (lt-leb 65_536 c.args.frames c.if-frames-ge-MAX_FRAMES.false) (ap not (eq-eqb (length c.args.loglikes.now) c.args.pdfs c.if-loglikes-pdfs.false)) ∙ ap (λ (t : Bool). numbered false false (not t)) (sym c.all_tame.ensures ∙ not-true _ c.if-not-all_tame.true))
+returns-then-not-all_tame c = sym (ap₂ (λ (a b : Bool). numbered a b (not (all tame c.args.loglikes.now))) (lt-leb 65_536 c.args.frames c.if-frames-ge-MAX_FRAMES.false) (ap not (eq-eqb (length c.args.loglikes.now) c.args.pdfs c.if-loglikes-pdfs.false)) ∙ ap (λ (t : Bool). numbered false false (not t)) (sym c.all_tame.ensures ∙ c.if-not-all_tame.true))
 
 pub returns : goal.returns
-returns c = sym (ap₂ (λ (a b : Bool). numbered a b (not (all tame c.args.loglikes.now))) (lt-leb 65_536 c.args.frames c.if-frames-ge-MAX_FRAMES.false) (ap not (eq-eqb (length c.args.loglikes.now) c.args.pdfs c.if-loglikes-pdfs.false)) ∙ ap (λ (t : Bool). numbered false false (not t)) (sym c.all_tame.ensures ∙ not-false _ c.if-not-all_tame.false))
+returns c = sym (ap₂ (λ (a b : Bool). numbered a b (not (all tame c.args.loglikes.now))) (lt-leb 65_536 c.args.frames c.if-frames-ge-MAX_FRAMES.false) (ap not (eq-eqb (length c.args.loglikes.now) c.args.pdfs c.if-loglikes-pdfs.false)) ∙ ap (λ (t : Bool). numbered false false (not t)) (sym c.all_tame.ensures ∙ c.if-not-all_tame.false))

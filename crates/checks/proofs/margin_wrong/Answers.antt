@@ -7,7 +7,7 @@ use Rattle.checks.specs.Margin.{asked}
 use Rattle.checks.proofs.margin_wrong.Goals as goal
 
 pub returns-then-not-keeps : goal.returns-then-not-keeps
-returns-then-not-keeps c = sym (ap (λ (b : Bool). not (fair_margin (asked b c.args.margin))) (not-true c.args.keeps c.if-not-keeps.true))
+returns-then-not-keeps c = sym (ap (λ (b : Bool). not (fair_margin (asked b c.args.margin))) (c.if-not-keeps.true))
 
 pub returns : goal.returns
-returns c = ap not c.is_fair.ensures ∙ sym (ap (λ (b : Bool). not (fair_margin (asked b c.args.margin))) (not-false c.args.keeps c.if-not-keeps.false))
+returns c = ap not c.is_fair.ensures ∙ sym (ap (λ (b : Bool). not (fair_margin (asked b c.args.margin))) (c.if-not-keeps.false))

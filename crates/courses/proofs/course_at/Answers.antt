@@ -19,7 +19,7 @@ returns-then-courses-lt1 c =
     (λ (a, b, d, e, f). rw (le-ltb _ 1 a.left, b.left, d.left, e.left, f.taken)))))
 
 -- what passes the tests is not refused, and its product fits
-right : (c : goal.Else5) → let a = c.args in wrong a.frame a.courses a.frames ≡ false
+right : (c : goal.Else-frame-gt-MAX_FRAMES) → let a = c.args in wrong a.frame a.courses a.frames ≡ false
 right c = rw (le-ltb _ 1 c.if-courses-lt1.false, c.if-courses-gt-MAX_COURSES.false, c.if-frames-lt1.false, c.if-frames-gt-MAX_COURSES.false, c.if-frame-gt-MAX_FRAMES.false)
 
 pub overflow_mul-frame : goal.overflow_mul-frame

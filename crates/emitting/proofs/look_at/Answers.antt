@@ -19,7 +19,7 @@ sums-are d =
     (get_d_any d.before.before.before.before.before.before.args.weights.now d.before.before.before.before.before.before.args.i nan 0f (let e = d.before.before.before.before.before.before.requires.0.weights in let l = d.before.before.before.before.before.before.requires.1 in omega arith)) d.loglike.ensures
 
 pub returns-then-not-takes : goal.returns-then-not-takes
-returns-then-not-takes c = look_skips c.args.ilabels.now c.args.weights.now c.args.tid2pdf.now c.args.loglikes.now c.args.offset c.args.adaptive c.args.cost c.args.i c.args.next (sym c.takes.ensures ∙ not-true _ c.if-not-takes.true)
+returns-then-not-takes c = look_skips c.args.ilabels.now c.args.weights.now c.args.tid2pdf.now c.args.loglikes.now c.args.offset c.args.adaptive c.args.cost c.args.i c.args.next (sym c.takes.ensures ∙ c.if-not-takes.true)
 
 pub offset_bounds-weights-i : goal.offset_bounds-weights-i
 offset_bounds-weights-i c = let e = c.requires.0.weights in let l = c.requires.1 in search rules
@@ -28,10 +28,10 @@ pub bounds-weights-i : goal.bounds-weights-i
 bounds-weights-i c = let e = c.requires.0.weights in let l = c.requires.1 in search rules
 
 pub loglike-requires : goal.loglike-requires
-loglike-requires c = c.requires.0.heard _ c.requires.1 (sym c.takes.ensures ∙ not-false _ c.if-not-takes.false)
+loglike-requires c = c.requires.0.heard _ c.requires.1 (sym c.takes.ensures ∙ c.if-not-takes.false)
 
 pub returns-then-not-is_tame : goal.returns-then-not-is_tame
-returns-then-not-is_tame c = look_refuses c.args.ilabels.now c.args.weights.now c.args.tid2pdf.now c.args.loglikes.now c.args.offset c.args.adaptive c.args.cost c.args.i c.args.next (sym c.takes.ensures ∙ not-false _ c.if-not-takes.false) _ (sums-are c.before.before) (sym c.is_tame.ensures ∙ not-true _ c.if-not-is_tame.true)
+returns-then-not-is_tame c = look_refuses c.args.ilabels.now c.args.weights.now c.args.tid2pdf.now c.args.loglikes.now c.args.offset c.args.adaptive c.args.cost c.args.i c.args.next (sym c.takes.ensures ∙ c.if-not-takes.false) _ (sums-are c.before.before) (sym c.is_tame.ensures ∙ c.if-not-is_tame.true)
 
 pub returns : goal.returns
-returns c = look_lowers c.args.ilabels.now c.args.weights.now c.args.tid2pdf.now c.args.loglikes.now c.args.offset c.args.adaptive c.args.cost c.args.i c.args.next (sym c.takes.ensures ∙ not-false _ c.if-not-takes.false) _ (sums-are c.before.before.before) (sym c.is_tame.ensures ∙ not-false _ c.if-not-is_tame.false) _ c.lower.ensures
+returns c = look_lowers c.args.ilabels.now c.args.weights.now c.args.tid2pdf.now c.args.loglikes.now c.args.offset c.args.adaptive c.args.cost c.args.i c.args.next (sym c.takes.ensures ∙ c.if-not-takes.false) _ (sums-are c.before.before.before) (sym c.is_tame.ensures ∙ c.if-not-is_tame.false) _ c.lower.ensures

@@ -15,14 +15,14 @@ graph s =
     graph_of a.offsets.now a.ilabels.now a.olabels.now a.weights.now a.nextstates.now a.finals.now a.tid2pdf.now a.tid2phone.now a.start a.pdfs
 
 -- what each check that did not refuse says
-right-shape : (c : goal.Else1) → false ≡ shape_wrong (graph c.before.before.before.before.before.before)
+right-shape : (c : goal.Else-shape_wrong) → false ≡ shape_wrong (graph c.before.before.before.before.before.before)
 unfolding shape_wrong
 right-shape c = sym c.if-shape_wrong.false ∙ c.shape_wrong.ensures
 
-good : (c : goal.Else1) → GoodShape (graph c.before.before.before.before.before.before)
+good : (c : goal.Else-shape_wrong) → GoodShape (graph c.before.before.before.before.before.before)
 good c = good_shape (graph c.before.before.before.before.before.before) (sym (right-shape c))
 
-right-start : (c : goal.Else2) → false ≡ start_wrong (graph c.before.before.before.before.before.before.before.before)
+right-start : (c : goal.Else-start_wrong) → false ≡ start_wrong (graph c.before.before.before.before.before.before.before.before)
 unfolding start_wrong
 right-start c = sym c.if-start_wrong.false ∙ c.start_wrong.ensures
 

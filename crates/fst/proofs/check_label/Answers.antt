@@ -33,16 +33,16 @@ Number s k z = k ≡ label_number s.args.tid2pdf.now s.args.tid2phone.now s.args
 answers : (s : goal.Start) (k : ℕ) → Number s k (label s) → Number s k s.args.ilabel
 answers s k = subst (Number s k) (is-label s)
 
-natural : (c : goal.Else1) → ltℤ (label c.before) (pos 0) ≡ false
+natural : (c : goal.Else-ilabel-lt0) → ltℤ (label c.before) (pos 0) ≡ false
 natural c = as_defined (label c.before) (pos 0) c.if-ilabel-lt0.false
 
-emitting : (c : goal.Else2) → nonzero (label c.before.before) ≡ true
+emitting : (c : goal.Else-ilabel-eq0) → nonzero (label c.before.before) ≡ true
 emitting c = subst (λ (z : ℤ). nonzero z ≡ true) (sym (is-label c.before.before)) (nonzero_yes c.args.ilabel c.if-ilabel-eq0.false)
 
-in-pdfs : (c : goal.Else3) → leb (length c.args.tid2pdf.now) (nat_abs (label c.before.before.before)) ≡ false
+in-pdfs : (c : goal.Else-tid2pdf-i) → leb (length c.args.tid2pdf.now) (nat_abs (label c.before.before.before)) ≡ false
 in-pdfs c = lt-leb _ _ c.if-tid2pdf-i.false
 
-in-phones : (c : goal.Else4) → leb (length c.args.tid2phone.now) (nat_abs (label c.before.before.before.before)) ≡ false
+in-phones : (c : goal.Else-tid2phone-i) → leb (length c.args.tid2phone.now) (nat_abs (label c.before.before.before.before)) ≡ false
 in-phones c = lt-leb _ _ c.if-tid2phone-i.false
 
 -- the pdf, an element of its table
@@ -52,13 +52,13 @@ pdf s = get_or s.args.tid2pdf.now (nat_abs (label s)) (pos 0)
 abbrev phone : goal.Start → ℤ
 phone s = get_or s.args.tid2phone.now (nat_abs (label s)) (pos 0)
 
-abbrev start : goal.After-if72 → goal.Start
+abbrev start : goal.After-t10-1 → goal.Start
 start c = c.before.before.before.before.before.before.before.before
 
-pdf-natural : (c : goal.Else5) → ltℤ (pdf c.before.before.before.before.before.before) (pos 0) ≡ false
+pdf-natural : (c : goal.Else-pdf-lt0) → ltℤ (pdf c.before.before.before.before.before.before) (pos 0) ≡ false
 pdf-natural c = tested (pdf c.before.before.before.before.before.before) 0 c.pdf-1.given c.if-pdf-lt0.false
 
-pdf-few : (c : goal.Else6) → ltℤ (pdf c.before.before.before.before.before.before.before) (pos c.args.pdfs) ≡ true
+pdf-few : (c : goal.Else-pdfs-pdf) → ltℤ (pdf c.before.before.before.before.before.before.before) (pos c.args.pdfs) ≡ true
 pdf-few c =
     let s = c.before.before.before.before.before.before.before in
     let n = s.args.pdfs in
@@ -66,7 +66,7 @@ pdf-few c =
     subst (λ (z : ℤ). ltℤ z (pos n) ≡ true) (back (pdf s) c.pdf-1.given) (less y n c.if-pdfs-pdf.false)
 
 -- the last test, of the phone, decides
-last : (c : goal.After-if72) (t : Bool) → lt_z (to_z w32 (of_z w32 (phone (start c)))) (pos 1) ≡ t → Number (start c) (number_of (refuse_at nowhere 4 t)) (start c).args.ilabel
+last : (c : goal.After-t10-1) (t : Bool) → lt_z (to_z w32 (of_z w32 (phone (start c)))) (pos 1) ≡ t → Number (start c) (number_of (refuse_at nowhere 4 t)) (start c).args.ilabel
 last c t e =
     let f = c.before in
     let d = f.before in

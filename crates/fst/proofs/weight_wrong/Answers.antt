@@ -8,16 +8,16 @@ use Rattle.fst.proofs.weight_wrong.Goals as goal
 
 pub returns-then-not-is_tame : goal.returns-then-not-is_tame
 unfolding weight_wrong of_bits
-returns-then-not-is_tame c = simp (sym c.is_tame.ensures ∙ not-true c.is_tame.result c.if-not-is_tame.true)
+returns-then-not-is_tame c = simp (sym c.is_tame.ensures ∙ c.if-not-is_tame.true)
 
 pub returns-then-ilabel-ne0 : goal.returns-then-ilabel-ne0
 unfolding weight_wrong of_bits
 returns-then-ilabel-ne0 c =
     let f = c.before.before in
-    simp (sym f.is-tame.ensures ∙ not-false f.is-tame.result c.if-not-is_tame.false, nonzero_yes f.before.args.ilabel c.if-ilabel-ne0.true)
+    simp (sym f.is-tame.ensures ∙ c.if-not-is_tame.false, nonzero_yes f.before.args.ilabel c.if-ilabel-ne0.true)
 
 pub returns : goal.returns
 unfolding weight_wrong of_bits
 returns c =
     let f = c.before.before in
-    simp (sym f.is-tame.ensures ∙ not-false f.is-tame.result c.if-not-is_tame.false, nonzero_no f.before.args.ilabel f.before.ranges.ilabel c.if-ilabel-ne0.false)
+    simp (sym f.is-tame.ensures ∙ c.if-not-is_tame.false, nonzero_no f.before.args.ilabel f.before.ranges.ilabel c.if-ilabel-ne0.false)

@@ -11,5 +11,5 @@ returns c =
     let u = m.before in
     let s = u.before in
     let w = s.args.word in
-    older_is s.args.h w (u.Unsigned-of.ensures ∙ ap unsigned (back w s.ranges.word.sfits)) m.wrapping-mul.ensures c.wrapping_add_u64.ensures
+    older_is s.args.h w (u.Unsigned-of.ensures ∙ ap unsigned (back w s.ranges.word.sfits)) m.wrapping-mul.ensures c.wrapping_add_u64.ensures.value
     c.wrapping_mul-2.ensures

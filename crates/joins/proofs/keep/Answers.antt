@@ -25,13 +25,13 @@ pub returns-then-not-is_kept : goal.returns-then-not-is_kept
 returns-then-not-is_kept c =
     let k = c.before in
     let s = k.before.before.before.before.before.before in
-    drops_loser (answered s.args.over s.ranges.over.sfits (not-true k.is-kept.result c.if-not-is_kept.true) k.is-kept.ensures) refl
+    drops_loser (answered s.args.over s.ranges.over.sfits (c.if-not-is_kept.true) k.is-kept.ensures) refl
 
 pub returns-then-used-cap : goal.returns-then-used-cap
 returns-then-used-cap c =
     let k = c.before.before in
     let s = k.before.before.before.before.before.before in
-    finds_full (answered s.args.over s.ranges.over.sfits (not-false k.is-kept.result c.if-not-is_kept.false) k.is-kept.ensures) c.if-used-cap.true refl
+    finds_full (answered s.args.over s.ranges.over.sfits (c.if-not-is_kept.false) k.is-kept.ensures) c.if-used-cap.true refl
 
 pub returns : goal.returns
 returns c =

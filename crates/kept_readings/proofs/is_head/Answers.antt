@@ -8,7 +8,7 @@ pub may_rank-requires : goal.may_rank-requires
 may_rank-requires c = (c.requires.0, c.requires.2.tokens, c.requires.2.sums, c.requires.2.finals)
 
 pub returns-then-not-may_rank : goal.returns-then-not-may_rank
-returns-then-not-may_rank c = cannot_rank (sym c.may_rank.ensures ∙ not-true _ c.if-not-may_rank.true)
+returns-then-not-may_rank c = cannot_rank (sym c.may_rank.ensures ∙ c.if-not-may_rank.true)
 
 pub link_at-link-requires : goal.link_at-link-requires
 link_at-link-requires c = (c.requires.0, c.requires.2.tokens)
@@ -17,4 +17,4 @@ pub first_join-requires : goal.first_join-requires
 first_join-requires c = (c.requires.1, let z = c.requires.2.low in let e = c.link_at-link.ensures in omega arith)
 
 pub returns : goal.returns
-returns c = is-head c.link_at-link.ensures c.first_join.ensures c.requires.2.low (sym c.may_rank.ensures ∙ not-false _ c.if-not-may_rank.false)
+returns c = is-head c.link_at-link.ensures c.first_join.ensures c.requires.2.low (sym c.may_rank.ensures ∙ c.if-not-may_rank.false)

@@ -11,7 +11,7 @@ use Rattle.reading_search.proofs.Searching.{Searching, searching_none, searching
 use Rattle.reading_search.proofs.search.Goals as goal
 
 -- the invariant, of the word itself
-held : (c : goal.At-loop invariant-loop decreases-loop) → Searching c.args.word c.args.ends.now c.args.words.now c.loop-reading.from c.loop-reading.reading
+held : (c : goal.At-loop-reading invariant-loop decreases-loop) → Searching c.args.word c.args.ends.now c.args.words.now c.loop-reading.from c.loop-reading.reading
 held c = rw (to_z-of_z w32 c.args.word c.ranges.word) at c.loop-reading.invariant
 
 pub loop-reading-init : goal.loop-reading-init
@@ -26,7 +26,7 @@ pub bounds-ends-reading : goal.bounds-ends-reading
 bounds-ends-reading c = omega arith
 
 -- the end at hand is neither before the reading's beginning nor past the words
-right-here : (c : goal.After-wide invariant-loop decreases-loop) → (c.loop-reading.from ≤ c.wide-end.result) × (c.wide-end.result ≤ length c.args.words.now)
+right-here : (c : goal.After-wide-end invariant-loop decreases-loop) → (c.loop-reading.from ≤ c.wide-end.result) × (c.wide-end.result ≤ length c.args.words.now)
 right-here c =
     let a = c.args in
     let l = c.loop-reading in

@@ -9,7 +9,7 @@ use Rattle.refusal_lines.proofs.compose.Goals as goal
 
 pub returns-then-not-may_have : goal.returns-then-not-may_have
 unfolding line_of
-returns-then-not-may_have c = let call = c.may_have in rw (sym call.ensures ∙ not-true call.result c.if-not-may_have.true) (record { behind = refl; written = refl })
+returns-then-not-may_have c = let call = c.may_have in rw (sym call.ensures ∙ c.if-not-may_have.true) (record { behind = refl; written = refl })
 
 pub put_number-named-requires : goal.put_number-named-requires
 unfolding text

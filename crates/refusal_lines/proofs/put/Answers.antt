@@ -10,7 +10,7 @@ use Rattle.lists.specs.Parts.{sets_append}
 use Rattle.refusal_lines.proofs.put.Goals as goal
 
 -- the slice keeps its length
-as_long : (c : goal.At-loop invariant-loop decreases-loop) → length c.loop-i.out ≡ length c.args.out.now
+as_long : (c : goal.At-loop-i invariant-loop decreases-loop) → length c.loop-i.out ≡ length c.args.out.now
 as_long c = ap length c.loop-i.invariant.1 ∙ simp length-sets
 
 pub loop-i-init : goal.loop-i-init

@@ -7,10 +7,10 @@ use Rattle.script.specs.Words.{filled_room}
 use Rattle.replay_silence.proofs.count_trailing.Goals as goal
 
 pub slice_bounds-silence-end : goal.slice_bounds-silence-end
-slice_bounds-silence-end c = omega (arith, filled_room c.fill_i32.ensures (not-false _ c.if-not-fill_i32.false), c.fill_i32.auto.1.1.0)
+slice_bounds-silence-end c = omega (arith, filled_room c.fill_i32.ensures (c.if-not-fill_i32.false), c.fill_i32.auto.1.1.0)
 
 pub slice_bounds-trailing_silence_frames-end : goal.slice_bounds-trailing_silence_frames-end
-slice_bounds-trailing_silence_frames-end c = sym (length-take-le _ _ (omega (arith, filled_room c.fill_i32.ensures (not-false _ c.if-not-fill_i32.false), c.fill_i32.auto.1.1.0)))
+slice_bounds-trailing_silence_frames-end c = sym (length-take-le _ _ (omega (arith, filled_room c.fill_i32.ensures (c.if-not-fill_i32.false), c.fill_i32.auto.1.1.0)))
 
 pub slice_bounds-trailing_silence_frames-end-2 : goal.slice_bounds-trailing_silence_frames-end-2
 slice_bounds-trailing_silence_frames-end-2 c = sym (length-take-le _ _ (omega (arith, c.fill_segments.auto.1.1.1.0, c.if-n-gt4096.false)))

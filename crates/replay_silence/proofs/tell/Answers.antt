@@ -8,10 +8,10 @@ use borrow.Author.Rules.{rules}
 use Rattle.replay_silence.proofs.tell.Goals as goal
 
 pub slice_bounds-silence-end : goal.slice_bounds-silence-end
-slice_bounds-silence-end c = omega (arith, filled_room c.fill_i32.ensures (not-false _ c.if-not-fill_i32.false), c.fill_i32.auto.1.1.0)
+slice_bounds-silence-end c = omega (arith, filled_room c.fill_i32.ensures (c.if-not-fill_i32.false), c.fill_i32.auto.1.1.0)
 
 pub slice_bounds-compute_current_traceback-end : goal.slice_bounds-compute_current_traceback-end
-slice_bounds-compute_current_traceback-end c = sym (length-take-le _ _ (omega (arith, filled_room c.fill_i32.ensures (not-false _ c.if-not-fill_i32.false), c.fill_i32.auto.1.1.0)))
+slice_bounds-compute_current_traceback-end c = sym (length-take-le _ _ (omega (arith, filled_room c.fill_i32.ensures (c.if-not-fill_i32.false), c.fill_i32.auto.1.1.0)))
 
 pub slice_bounds-compute_current_traceback-end-2 : goal.slice_bounds-compute_current_traceback-end-2
 slice_bounds-compute_current_traceback-end-2 c = sym (length-take-le _ _ (omega (arith, c.fill_segments.auto.1.1.1.0, c.requires.1)))

@@ -10,13 +10,13 @@ pub returns-then-not-can_fill : goal.returns-then-not-can_fill
 returns-then-not-can_fill c =
     let a = c.args in
     let call = c.can_fill in
-    not_filled (λ w. w) a.bytes.now a.at a.n a.out.now (sym call.ensures ∙ not-true call.result c.if-not-can_fill.true)
+    not_filled (λ w. w) a.bytes.now a.at a.n a.out.now (sym call.ensures ∙ c.if-not-can_fill.true)
 
 pub loop-i-init : goal.loop-i-init
 loop-i-init c =
     let a = c.args in
     let call = c.can_fill in
-    filling_none (λ w. w) a.bytes.now a.at a.n a.out.now (sym call.ensures ∙ not-false call.result c.if-not-can_fill.false)
+    filling_none (λ w. w) a.bytes.now a.at a.n a.out.now (sym call.ensures ∙ c.if-not-can_fill.false)
 
 pub overflow_add-at : goal.overflow_add-at
 overflow_add-at c = omega arith
@@ -47,4 +47,4 @@ returns c =
     let a = c.args in
     let l = c.loop-i in
     let call = c.can_fill in
-    filled (λ w. w) a.bytes.now a.at a.n a.out.now l.out l.i (sym call.ensures ∙ not-false call.result c.if-not-can_fill.false) l.invariant c.loop-i-test.false
+    filled (λ w. w) a.bytes.now a.at a.n a.out.now l.out l.i (sym call.ensures ∙ c.if-not-can_fill.false) l.invariant c.loop-i-test.false

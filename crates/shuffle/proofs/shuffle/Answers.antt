@@ -13,7 +13,7 @@ pub returns-then-is_wrong : goal.returns-then-is_wrong
 returns-then-is_wrong c = refused shuffled _ _ (sym c.is_wrong.ensures ∙ c.if-is_wrong.true)
 
 -- the lengths are not refused
-accepted : (c : goal.Else1 invariant-loop decreases-loop) → wrong (length c.args.block.now) (length c.args.output.now) ≡ false
+accepted : (c : goal.Else-is_wrong invariant-loop decreases-loop) → wrong (length c.args.block.now) (length c.args.output.now) ≡ false
 accepted c = sym c.is_wrong.ensures ∙ c.if-is_wrong.false
 
 pub loop-i-init : goal.loop-i-init

@@ -20,7 +20,7 @@ pub overflow_mul-fourth : goal.overflow_mul-fourth
 overflow_mul-fourth c = omega arith
 
 -- the lengths are not refused
-accepted : (c : goal.Else1 invariant-loop decreases-loop) → wrong (length c.args.block.now) (length c.args.output.now) ≡ false
+accepted : (c : goal.Else-is_wrong invariant-loop decreases-loop) → wrong (length c.args.block.now) (length c.args.output.now) ≡ false
 accepted c = sym c.is_wrong.ensures ∙ c.if-is_wrong.false
 
 pub loop-i-init : goal.loop-i-init

@@ -17,4 +17,4 @@ returns c =
     let a = c.args.a in
     let b = c.args.b in
     let H : ℕ = 2 ^ 32 in
-    c.wrapping_add_u64.ensures ∙ ap (λ (z : ℕ). (a % H * (b % H) + z * H) % 2 ^ 64) (ap (λ (z : ℕ). z % H) c.wrapping_add_u64-middle.ensures ∙ low_half (a / H * (b % H) + a % H * (b / H))) ∙ product H a b
+    c.wrapping_add_u64.ensures.value ∙ ap (λ (z : ℕ). (a % H * (b % H) + z * H) % 2 ^ 64) (ap (λ (z : ℕ). z % H) c.wrapping_add_u64-middle.ensures.value ∙ low_half (a / H * (b % H) + a % H * (b / H))) ∙ product H a b

@@ -4,7 +4,7 @@ use borrow.Author.Tests.{not-true}
 use Rattle.replay_reads.proofs.alternatives.say_unlisted.Goals as goal
 
 pub returns-then-not-list_fits : goal.returns-then-not-list_fits
-returns-then-not-list_fits c = λ e. sym (not-true _ c.if-not-list_fits.true) ∙ c.list_fits.ensures ∙ e
+returns-then-not-list_fits c = λ e. sym (c.if-not-list_fits.true) ∙ c.list_fits.ensures ∙ e
 
 pub returns : goal.returns
 returns c = λ e. refl

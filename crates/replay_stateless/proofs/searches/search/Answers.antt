@@ -13,12 +13,12 @@ use Rattle.replay_stateless.proofs.searches.search.Goals as goal
 ends-room : (c : goal.After-int-of) → c.args.n ≤ length c.fill_u32.new.1.1.0
 ends-room c =
     let call = c.fill_u32 in
-    omega (arith, filled_room call.ensures (not-false call.result c.if-not-fill_u32.false), call.auto.1.1.0)
+    omega (arith, filled_room call.ensures (c.if-not-fill_u32.false), call.auto.1.1.0)
 
 words-room : (c : goal.After-int-of) → c.args.m ≤ length c.fill_i32.new.1.1.0
 words-room c =
     let call = c.fill_i32 in
-    omega (arith, filled_room call.ensures (not-false call.result c.if-not-fill_i32.false), call.auto.1.1.0)
+    omega (arith, filled_room call.ensures (c.if-not-fill_i32.false), call.auto.1.1.0)
 
 pub slice_bounds-ends-end : goal.slice_bounds-ends-end
 slice_bounds-ends-end c = ends-room c

@@ -17,7 +17,7 @@ use Rattle.silence_weighting.proofs.SilenceWeighting.compute_current_traceback.G
 -- stores is the definition's frame list.
 -- stores is the definition's frame list.
 -- the settings are right
-settings : (c : goal.Else1) → let a = c.args in weighting_wrong a.self.weight a.self.subsampling ≡ false
+settings : (c : goal.Else-settings_wrong) → let a = c.args in weighting_wrong a.self.weight a.self.subsampling ≡ false
 settings c = sym c.settings_wrong.ensures ∙ c.if-settings_wrong.false
 
 -- the list's length is tested against the places of both slices, and so are the frames decoded

@@ -17,7 +17,7 @@ planned c =
     ap (λ n. plan_of a.self a.num-frames-ready a.first-decoder-frame n a.status.now a.weights.now) (sym c.smaller-room.ensures) ∙ sym c.plan.ensures
 
 -- the window fits
-fits : (c : goal.After-window) →
+fits : (c : goal.In-Write-2) →
     let a = c.args in
     Within a.self (ceil_div (a.num-frames-ready - a.first-decoder-frame) a.self.subsampling) a.status.now a.weights.now a.frames.now a.deltas.now c.in-Write.window
 fits c =

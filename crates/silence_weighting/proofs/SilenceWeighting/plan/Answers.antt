@@ -15,7 +15,7 @@ use Rattle.silence_weighting.proofs.Limits.{fair, few_frames, sound_window}
 use Rattle.silence_weighting.proofs.SilenceWeighting.plan.Goals as goal
 
 -- the settings are right
-settings : (c : goal.Else1) → weighting_wrong c.args.self.weight c.args.self.subsampling ≡ false
+settings : (c : goal.Else-settings_wrong) → weighting_wrong c.args.self.weight c.args.self.subsampling ≡ false
 settings c = sym c.settings_wrong.ensures ∙ c.if-settings_wrong.false
 
 -- the list's length is tested against the places of both slices
