@@ -5,18 +5,16 @@ use Rattle.compaction.proofs.mark_live.Goals as goal
 
 pub mark_held-requires : goal.mark_held-requires
 mark_held-requires c =
-    let s = c.before.before.before.before.before.before.before in
-    (s.requires.tokens, λ p l. omega (arith, s.requires.held p l, s.requires.room, c.clear_marks.auto.records))
+    (c.requires.tokens, λ p l. omega (arith, c.requires.held p l, c.requires.room, c.clear_marks.auto.records))
 
 pub spread-requires : goal.spread-requires
 spread-requires c =
-    let s = c.before.before.before.before.before.before.before.before.before.before.before.before.before.before.before in
     let m = c.mark in
     let h = c.mark_held in
     let e = c.clear_marks in (
-      omega (arith, s.requires.room, m.auto.0, h.auto.0, e.auto.0),
-      λ k l. omega (arith, s.requires.prev-low k l, same_prev _ _ m.ensures.same k, same_prev _ _ h.ensures.same k, same_prev _ _ e.ensures.same k),
-      λ k l. omega (arith, s.requires.kept_low k l, same_kept_lem _ _ m.ensures.same k, same_kept_lem _ _ h.ensures.same k, same_kept_lem _ _ e.ensures.same k),
+      omega (arith, c.requires.room, m.auto.0, h.auto.0, e.auto.0),
+      λ k l. omega (arith, c.requires.prev-low k l, same_prev _ _ m.ensures.same k, same_prev _ _ h.ensures.same k, same_prev _ _ e.ensures.same k),
+      λ k l. omega (arith, c.requires.kept_low k l, same_kept_lem _ _ m.ensures.same k, same_kept_lem _ _ h.ensures.same k, same_kept_lem _ _ e.ensures.same k),
     )
 
 pub returns : goal.returns

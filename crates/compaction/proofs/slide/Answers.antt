@@ -12,9 +12,8 @@ loop-k-init c = (omega arith, omega arith, refl, refl, refl, slid_none _)
 pub slide_one-n-requires : goal.slide_one-n-requires
 slide_one-n-requires c =
     let l = c.loop-k in
-    let s = c.before.before.before.before.before.before.before in
-    let sh = s.requires.0 in
-    let low = next_low _ (store l.records l.labels l.gaps) s.args.used l.k l.n l.invariant.5 sh c.loop-k-test.true in (
+    let sh = c.requires.0 in
+    let low = next_low _ (store l.records l.labels l.gaps) c.args.used l.k l.n l.invariant.5 sh c.loop-k-test.true in (
       (l.invariant.1, omega arith, low.0, low.1),
       (omega (arith, sh.room.records), omega (arith, sh.room.labels), omega (arith, sh.room.gaps)),
     )
@@ -23,13 +22,13 @@ pub loop-k-preserved : goal.loop-k-preserved
 loop-k-preserved c =
     let o = c.slide_one-n in
     let l = c.loop-k in
-    let s = c.before.before.before.before.before.before.before.before.before.before.before.before.before in (
+    (
       omega (arith, c.loop-k-test.true),
       o.ensures.few,
       o.auto.0 ∙ l.invariant.2,
       o.auto.1.0 ∙ l.invariant.3,
       o.auto.1.1.0 ∙ l.invariant.4,
-      o.ensures.next _ s.args.used c.loop-k-test.true s.requires.0 l.invariant.5,
+      o.ensures.next _ c.args.used c.loop-k-test.true c.requires.0 l.invariant.5,
     )
 
 pub shape_of-records : goal.shape_of-records

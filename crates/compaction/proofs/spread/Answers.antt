@@ -10,22 +10,18 @@ loop-k-init c = (omega arith, refl, handed_none _ _)
 
 pub hand_on-requires : goal.hand_on-requires
 hand_on-requires c =
-    let l = c.before.before in
-    let s = c.before.before.before.before in
-    let k = l.loop.k - 1 in (
+    let k = c.loop-k.k - 1 in (
       omega arith,
       omega arith,
-      omega (arith, same_prev _ _ l.loop.invariant.2.same k, s.requires.1 k (omega arith)),
-      omega (arith, same_kept_lem _ _ l.loop.invariant.2.same k, s.requires.2 k (omega arith)),
+      omega (arith, same_prev _ _ c.loop-k.invariant.2.same k, c.requires.1 k (omega arith)),
+      omega (arith, same_kept_lem _ _ c.loop-k.invariant.2.same k, c.requires.2 k (omega arith)),
     )
 
 pub loop-k-preserved : goal.loop-k-preserved
 loop-k-preserved c =
     let o = c.hand_on in
-    let l = c.before.before.before.before.before in
-    let s = c.before.before.before.before.before.before.before in
-    let k = l.loop.k in
-    (omega arith, o.auto.0 ∙ l.loop.invariant.1, handed_next _ _ _ _ k (omega arith) (omega arith) (s.requires.1 (k - 1) (omega arith)) (s.requires.2 (k - 1) (omega arith)) l.loop.invariant.2 o.ensures)
+    let k = c.loop-k.k in
+    (omega arith, o.auto.0 ∙ c.loop-k.invariant.1, handed_next _ _ _ _ k (omega arith) (omega arith) (c.requires.1 (k - 1) (omega arith)) (c.requires.2 (k - 1) (omega arith)) c.loop-k.invariant.2 o.ensures)
 
 pub shape_of-records : goal.shape_of-records
 shape_of-records c = c.loop-k.invariant.1

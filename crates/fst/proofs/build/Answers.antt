@@ -35,14 +35,12 @@ found-arcs c =
 pub returns-then-shape_wrong : goal.returns-then-shape_wrong
 unfolding shape_wrong
 returns-then-shape_wrong c =
-    let d = c.before.before in
-    c.refused.ensures ∙ shape_refused (graph d.before.before.before.before.before) (sym c.if-shape_wrong.true ∙ d.shape-wrong.ensures)
+    c.refused.ensures ∙ shape_refused (graph c.before.before.before.before.before.before) (sym c.if-shape_wrong.true ∙ c.shape_wrong.ensures)
 
 pub returns-then-start_wrong : goal.returns-then-start_wrong
 unfolding start_wrong
 returns-then-start_wrong c =
-    let d = c.before.before in
-    c.refused-then-start_wrong.ensures ∙ start_refused (graph d.before.before.before.before.before.before.before) (right-shape d.before) (sym c.if-start_wrong.true ∙ d.start-wrong.ensures)
+    c.refused-then-start_wrong.ensures ∙ start_refused (graph c.before.before.before.before.before.before.before.before) (right-shape c.before.before) (sym c.if-start_wrong.true ∙ c.start_wrong.ensures)
 
 pub check_states-arcs-requires : goal.check_states-arcs-requires
 check_states-arcs-requires c =
@@ -61,15 +59,11 @@ check_finals-ends-requires c = (good c.before.before.before).states-few
 
 pub returns-in-Fault : goal.returns-in-Fault
 returns-in-Fault c =
-    let d = c.before.before.before.before in
-    arc_refused (graph d.before.before.before.before.before.before.before.before.before) (right-shape d.before.before.before) (right-start d.before) c.in-Fault.refusal (sym c.in-Fault.is ∙ found-arcs d)
+    arc_refused (graph c.before.before.before.before.before.before.before.before.before.before) (right-shape c.before.before.before.before) (right-start c.before.before) c.in-Fault.refusal (sym c.in-Fault.is ∙ found-arcs c.before)
 
 pub returns-in-Fault-ends : goal.returns-in-Fault-ends
 returns-in-Fault-ends c =
-    let t = c.before.before.before in
-    let f = t.before.before in
-    let d = f.before in
-    final_refused (graph d.before.before.before.before.before.before.before.before.before) (right-shape d.before.before.before) (right-start d.before) (sym t.enum_told.given.1 ∙ found-arcs d) c.in-Fault-ends.refusal (sym c.in-Fault-ends.is ∙ f.check-finals.ensures)
+    final_refused (graph c.before.before.before.before.before.before.before.before.before.before) (right-shape c.before.before.before.before) (right-start c.before.before) (sym c.in_default.is ∙ found-arcs c.before) c.in-Fault-ends.refusal (sym c.in-Fault-ends.is ∙ c.check_finals-ends.ensures)
 
 pub overflow_cast-result : goal.overflow_cast-result
 overflow_cast-result c = let h = good c.before.before.before.before.before.before.before.before in omega arith
@@ -79,7 +73,4 @@ overflow_cast-result-2 c = let h = good c.before.before.before.before.before.bef
 
 pub returns : goal.returns
 returns c =
-    let t = c.before.before in
-    let f = t.before.before in
-    let d = f.before in
-    accepted (graph d.before.before.before.before.before.before.before.before.before) (right-shape d.before.before.before) (right-start d.before) (sym t.enum_told.given.1 ∙ found-arcs d) (sym c.in_default-ends.is ∙ f.check-finals.ensures)
+    accepted (graph c.before.before.before.before.before.before.before.before.before.before) (right-shape c.before.before.before.before) (right-start c.before.before) (sym c.in_default.is ∙ found-arcs c.before) (sym c.in_default-ends.is ∙ c.check_finals-ends.ensures)

@@ -38,8 +38,7 @@ returns-then-finals-nextstate c = no_target _ _ _ _ _ _ _ (le-leb _ _ c.if-final
 
 pub returns-then-label-ne0 : goal.returns-then-label-ne0
 returns-then-label-ne0 c =
-    let d = c.before in
-    by_label_lem _ _ _ _ _ _ _ (lt-leb _ _ d.before.if1.false) d.check-label.result (label-number d) c.if-label-ne0.true
+    by_label_lem _ _ _ _ _ _ _ (lt-leb _ _ c.if-finals-nextstate.false) c.check_label-label.result (label-number c.before) c.if-label-ne0.true
 
 pub returns-then-weight_wrong : goal.returns-then-weight_wrong
 returns-then-weight_wrong c = weighed c.before true c.if-weight_wrong.true

@@ -34,17 +34,15 @@ loop-i-init c =
 
 pub returns-then-number-ne0 : goal.returns-then-number-ne0
 returns-then-number-ne0 c =
-    let d = c.before in
-    let l = d.before.before.before.before.before.loop in
-    let a = d.before.before.before.before.before.before.before.before.before.args in
-    arc_refused _ a.state (length a.ilabels.now) l.i l.invariant.1 (omega arith) d.check-arc.result (number d) c.if-number-ne0.true
+    let l = c.loop-i in
+    let a = c.args in
+    arc_refused _ a.state (length a.ilabels.now) l.i l.invariant.1 (omega arith) c.check_arc-number.result (number c.before) c.if-number-ne0.true
 
 pub loop-i-preserved : goal.loop-i-preserved
 loop-i-preserved c =
-    let d = c.before in
-    let l = d.before.before.before.before.before.loop in
-    let a = d.before.before.before.before.before.before.before.before.before.args in
-    (search rules, arc_passed _ a.state (length a.ilabels.now) l.i l.invariant.1 (omega arith) d.check-arc.result (number d) c.if-number-ne0.false)
+    let l = c.loop-i in
+    let a = c.args in
+    (search rules, arc_passed _ a.state (length a.ilabels.now) l.i l.invariant.1 (omega arith) c.check_arc-number.result (number c.before) c.if-number-ne0.false)
 
 pub returns : goal.returns
 returns c =

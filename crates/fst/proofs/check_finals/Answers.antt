@@ -11,15 +11,13 @@ loop-s-init c = (search rules, refl)
 
 pub returns-then-final_wrong : goal.returns-then-final_wrong
 returns-then-final_wrong c =
-    let d = c.before in
-    let l = d.before.before.before.loop in
-    unfair _ l.s l.invariant.1 (omega arith) (sym c.if-final_wrong.true ∙ d.final-wrong.ensures)
+    let l = c.loop-s in
+    unfair _ l.s l.invariant.1 (omega arith) (sym c.if-final_wrong.true ∙ c.final_wrong.ensures)
 
 pub loop-s-preserved : goal.loop-s-preserved
 loop-s-preserved c =
-    let d = c.before in
-    let l = d.before.before.before.loop in
-    (search rules, fair _ l.s l.invariant.1 (omega arith) (sym c.if-final_wrong.false ∙ d.final-wrong.ensures))
+    let l = c.loop-s in
+    (search rules, fair _ l.s l.invariant.1 (omega arith) (sym c.if-final_wrong.false ∙ c.final_wrong.ensures))
 
 pub returns : goal.returns
 returns c = all_fair _ c.loop-s.s c.loop-s.invariant.1 (omega arith)

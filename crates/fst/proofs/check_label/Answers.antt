@@ -60,33 +60,27 @@ pdf-natural c = tested (pdf c.before.before.before.before.before.before) 0 c.pdf
 
 pdf-few : (c : goal.Else-pdfs-pdf) → ltℤ (pdf c.before.before.before.before.before.before.before) (pos c.args.pdfs) ≡ true
 pdf-few c =
-    let s = c.before.before.before.before.before.before.before in
-    let n = s.args.pdfs in
-    let y = to_z w32 (of_z w32 (pdf s)) in
-    subst (λ (z : ℤ). ltℤ z (pos n) ≡ true) (back (pdf s) c.pdf-1.given) (less y n c.if-pdfs-pdf.false)
+    let n = c.args.pdfs in
+    let y = to_z w32 (of_z w32 (pdf c.before)) in
+    subst (λ (z : ℤ). ltℤ z (pos n) ≡ true) (back (pdf c.before) c.pdf-1.given) (less y n c.if-pdfs-pdf.false)
 
 -- the last test, of the phone, decides
 last : (c : goal.After-t10-1) (t : Bool) → lt_z (to_z w32 (of_z w32 (phone (start c)))) (pos 1) ≡ t → Number (start c) (number_of (refuse_at nowhere 4 t)) (start c).args.ilabel
 last c t e =
-    let f = c.before in
-    let d = f.before in
-    let l = d.before.before in
-    answers (start c) _ (by_phone _ _ _ _ (natural l.before.before.before) (emitting l.before.before) (in-pdfs l.before) (in-phones l) (pdf-natural d) (pdf-few f) t (tested (phone (start c)) 1 c.t10-1.given e))
+    answers (start c) _ (by_phone _ _ _ _ (natural c.before.before.before.before) (emitting c.before.before.before) (in-pdfs c.before.before) (in-phones c.before) (pdf-natural c.before) (pdf-few c.before) t (tested (phone (start c)) 1 c.t10-1.given e))
 
 pub returns-then-ilabel-lt0 : goal.returns-then-ilabel-lt0
 returns-then-ilabel-lt0 c = answers c.before 3 (negative _ _ _ _ (as_defined (label c.before) (pos 0) c.if-ilabel-lt0.true))
 
 pub returns-then-ilabel-eq0 : goal.returns-then-ilabel-eq0
 returns-then-ilabel-eq0 c =
-    let s = c.before.before in
-    let z = s.args.ilabel in
-    let e = subst (λ (y : ℤ). nonzero y ≡ false) (sym (is-label s)) (nonzero_no z s.ranges.ilabel c.if-ilabel-eq0.true) in
-    answers s 0 (epsilon _ _ _ _ (natural c.before) e)
+    let z = c.args.ilabel in
+    let e = subst (λ (y : ℤ). nonzero y ≡ false) (sym (is-label c.before)) (nonzero_no z c.ranges.ilabel c.if-ilabel-eq0.true) in
+    answers c.before 0 (epsilon _ _ _ _ (natural c.before) e)
 
 pub overflow_cast-i : goal.overflow_cast-i
 overflow_cast-i c =
-    let s = c.before.before in
-    let h = casts (label s) (small s) c.if-ilabel-lt0.false in
+    let h = casts (label c.before) (small c.before) c.if-ilabel-lt0.false in
     (h.0, omega arith)
 
 pub returns-then-tid2pdf-i : goal.returns-then-tid2pdf-i
@@ -99,10 +93,8 @@ returns-then-tid2phone-i c =
 
 pub returns-then-pdf-lt0 : goal.returns-then-pdf-lt0
 returns-then-pdf-lt0 c =
-    let l = c.before.before in
-    let s = l.before.before.before.before in
-    let t = tested (pdf s) 0 c.pdf-1.given c.if-pdf-lt0.true in
-    answers s 3 (pdf_negative _ _ _ _ (natural l.before.before.before) (emitting l.before.before) (in-pdfs l.before) (in-phones l) t)
+    let t = tested (pdf c.before) 0 c.pdf-1.given c.if-pdf-lt0.true in
+    answers c.before 3 (pdf_negative _ _ _ _ (natural c.before.before.before.before) (emitting c.before.before.before) (in-pdfs c.before.before) (in-phones c.before) t)
 
 pub overflow_cast-pdf : goal.overflow_cast-pdf
 overflow_cast-pdf c =
@@ -113,12 +105,9 @@ overflow_cast-pdf c =
 
 pub returns-then-pdfs-pdf : goal.returns-then-pdfs-pdf
 returns-then-pdfs-pdf c =
-    let d = c.before in
-    let l = d.before.before in
-    let s = l.before.before.before.before in
-    let n = s.args.pdfs in
-    let t = subst (λ (y : ℤ). ltℤ y (pos n) ≡ false) (back (pdf s) d.before.pdf.given) (at_least (to_z w32 (of_z w32 (pdf s))) n d.if5.false c.if-pdfs-pdf.true) in
-    answers s 3 (pdf_over _ _ _ _ (natural l.before.before.before) (emitting l.before.before) (in-pdfs l.before) (in-phones l) (pdf-natural d) t)
+    let n = c.args.pdfs in
+    let t = subst (λ (y : ℤ). ltℤ y (pos n) ≡ false) (back (pdf c.before) c.pdf-1.given) (at_least (to_z w32 (of_z w32 (pdf c.before))) n c.if-pdf-lt0.false c.if-pdfs-pdf.true) in
+    answers c.before 3 (pdf_over _ _ _ _ (natural c.before.before.before.before) (emitting c.before.before.before) (in-pdfs c.before.before) (in-phones c.before) (pdf-natural c.before) t)
 
 pub returns-then-tid2phone-i-lt1 : goal.returns-then-tid2phone-i-lt1
 returns-then-tid2phone-i-lt1 c = last c.before true c.if-tid2phone-i-lt1.true

@@ -54,31 +54,25 @@ slice_bounds-check_arcs-count-in-loop-s-2 c = (part c.before.before).0
 
 pub check_arcs-found-requires : goal.check_arcs-found-requires
 check_arcs-found-requires c =
-    let f = c.before.before.before in
-    let s = f.before.before.before.before.before.before.before.before in
-    let a = f.before.first-arc.result in
-    let e = f.first-arc2.result in
-    let b = part f in
-    let n = length s.args.ilabels.now in
-    let l = part_length s.args.ilabels.now a e n refl b.0 b.1 in (
-      part_length s.args.weights.now a e n s.requires.weights-long b.0 b.1 ∙ sym l,
-      part_length s.args.nextstates.now a e n s.requires.nextstates-long b.0 b.1 ∙ sym l,
+    let a = c.first_arc-a.result in
+    let e = c.first_arc-e.result in
+    let b = part c.before in
+    let n = length c.args.ilabels.now in
+    let l = part_length c.args.ilabels.now a e n refl b.0 b.1 in (
+      part_length c.args.weights.now a e n c.requires.weights-long b.0 b.1 ∙ sym l,
+      part_length c.args.nextstates.now a e n c.requires.nextstates-long b.0 b.1 ∙ sym l,
       omega arith,
     )
 
 pub returns-in-Fault : goal.returns-in-Fault
 returns-in-Fault c =
-    let d = c.before.before.before in
-    let f = d.before.before.before.before in
-    let l = f.before.before.before.loop in
-    state_refused _ _ l.s l.invariant.1 (within f) c.in-Fault.refusal (sym c.in-Fault.is ∙ of-state d)
+    let l = c.loop-s in
+    state_refused _ _ l.s l.invariant.1 (within c.before) c.in-Fault.refusal (sym c.in-Fault.is ∙ of-state c.before)
 
 pub loop-s-preserved : goal.loop-s-preserved
 loop-s-preserved c =
-    let d = c.before.before in
-    let f = d.before.before.before.before in
-    let l = f.before.before.before.loop in
-    (search rules, state_passed _ _ l.s l.invariant.1 (within f) (sym c.in_default.is ∙ of-state d))
+    let l = c.loop-s in
+    (search rules, state_passed _ _ l.s l.invariant.1 (within c.before) (sym c.in_default.is ∙ of-state c.before))
 
 pub returns : goal.returns
 returns c = let l = c.loop-s in all_states_lem _ _ l.s l.invariant.1 (omega arith)

@@ -18,7 +18,7 @@ part d =
     between (length s.args.ilabels.now) s.args.offsets.now s.requires.0 d.before.before.before.loop.s (omega arith) d.before.first-arc.ensures d.first-arc2.ensures
 
 pub overflow_sub-s-end : goal.overflow_sub-s-end
-overflow_sub-s-end c = let s = c.before.before in some_offset (length s.args.ilabels.now) s.args.offsets.now s.requires.0
+overflow_sub-s-end c = some_offset (length c.args.ilabels.now) c.args.offsets.now c.requires.0
 
 pub loop-s-init : goal.loop-s-init
 loop-s-init c = (search rules, search rules, λ g p q. refl)
@@ -31,11 +31,10 @@ slice_bounds-has_eps-count c = (part c).0
 
 pub loop-s-preserved : goal.loop-s-preserved
 loop-s-preserved c =
-    let f = c.before.before in
-    let l = f.before.before.before.loop in
-    let a = f.before.before.before.before.before.before.args in
+    let l = c.loop-s in
+    let a = c.args in
     let v = bool_byte c.has_eps.result in
-    let b = part f in
+    let b = part c.before in
     let h : l.s < length a.table.now = omega arith in (
       search rules,
       search rules,
@@ -45,7 +44,7 @@ loop-s-preserved c =
           (byte c.has_eps.result ∙
           ap bit
           (c.has_eps.ensures ∙
-          state_epsilon a.offsets.now a.ilabels.now l.s f.before.first-arc.result f.first-arc2.result b.0 b.1 f.before.first-arc.ensures f.first-arc2.ensures g p q)),
+          state_epsilon a.offsets.now a.ilabels.now l.s c.first_arc-a.result c.first_arc-e.result b.0 b.1 c.first_arc-a.ensures c.first_arc-e.ensures g p q)),
     )
 
 pub returns : goal.returns

@@ -12,19 +12,17 @@ returns-then-is_tame c = simp (sym c.is_tame.ensures ∙ c.if-is_tame.true)
 pub returns-then-weight-infinity : goal.returns-then-weight-infinity
 unfolding final_wrong
 returns-then-weight-infinity c =
-    let f = c.before.before.before in
-    let w = f.before.args.weight in
+    let w = c.args.weight in
     simp (
-      sym f.is-tame.ensures ∙ c.if-is_tame.false,
+      sym c.is_tame.ensures ∙ c.if-is_tame.false,
       subst (λ (x : Float). lt w x ≡ true) c.infinity.ensures c.if-weight-infinity.true,
     )
 
 pub returns : goal.returns
 unfolding final_wrong of_bits
 returns c =
-    let f = c.before.before.before in
-    let w = f.before.args.weight in
+    let w = c.args.weight in
     simp (
-      sym f.is-tame.ensures ∙ c.if-is_tame.false,
+      sym c.is_tame.ensures ∙ c.if-is_tame.false,
       subst (λ (x : Float). lt w x ≡ false) c.infinity.ensures c.if-weight-infinity.false,
     )

@@ -20,9 +20,8 @@ of-list : (s : goal.Start) (r : Bool) → r ≡ finite (get_or s.args.finals.now
 of-list s r e g p = e ∙ ap (λ (xs : List Float). finite (get_or xs s.args.state ∞)) (sym p)
 
 pub returns-then-finals-s : goal.returns-then-finals-s
-returns-then-finals-s c = let s = c.before.before in of-list s false (sym (no_weight s.args.finals.now s.args.state c.if-finals-s.true))
+returns-then-finals-s c = of-list c.before false (sym (no_weight c.args.finals.now c.args.state c.if-finals-s.true))
 
 pub returns : goal.returns
 returns c =
-    let s = c.before.before.before.before in
-    of-list s c.is_finite.result (c.is_finite.ensures ∙ ap finite (get_d_any s.args.finals.now s.args.state nan ∞ (omega arith)))
+    of-list c.before c.is_finite.result (c.is_finite.ensures ∙ ap finite (get_d_any c.args.finals.now c.args.state nan ∞ (omega arith)))

@@ -56,16 +56,15 @@ returns-then-nextstates-arcs c = simp (ne_eqb _ _ c.if-nextstates-arcs.true, or-
 pub returns : goal.returns
 unfolding shape_wrong
 returns c =
-    let d = c.before in
-    let a = d.before.before.before.before.before.before.before.before.before.before.before.before.args in
+    let a = c.args in
     simp (
-      le-ltb _ _ d.before.before.before.before.before.before.before.if1.false,
-      le-ltb _ _ d.before.before.before.before.before.before.if2.false,
-      no-more-ids _ d.before.before.before.before.before.if3.false,
-      no-more-ids _ d.before.before.before.before.if4.false,
-      eq-eqb (length a.offsets.now) (suc (length a.finals.now)) (d.before.before.before.if5.false ∙ add-one (length a.finals.now)),
-      eq-eqb _ _ d.before.before.if6.false,
-      eq-eqb _ _ d.before.if7.false,
-      eq-eqb _ _ d.if8.false,
+      le-ltb _ _ c.if-states-gt-MAX_STATES.false,
+      le-ltb _ _ c.if-arcs-gt-MAX_ARCS.false,
+      no-more-ids _ c.if-tid2pdf-gt-MAX_TRANSITIONS.false,
+      no-more-ids _ c.if-tid2phone-gt-MAX_TRANSITIONS.false,
+      eq-eqb (length a.offsets.now) (suc (length a.finals.now)) (c.if-offsets-states.false ∙ add-one (length a.finals.now)),
+      eq-eqb _ _ c.if-olabels-arcs.false,
+      eq-eqb _ _ c.if-weights-arcs.false,
+      eq-eqb _ _ c.if-nextstates-arcs.false,
       c.runs.ensures,
     )

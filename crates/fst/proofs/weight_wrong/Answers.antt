@@ -13,11 +13,9 @@ returns-then-not-is_tame c = simp (sym c.is_tame.ensures ∙ c.if-not-is_tame.tr
 pub returns-then-ilabel-ne0 : goal.returns-then-ilabel-ne0
 unfolding weight_wrong of_bits
 returns-then-ilabel-ne0 c =
-    let f = c.before.before in
-    simp (sym f.is-tame.ensures ∙ c.if-not-is_tame.false, nonzero_yes f.before.args.ilabel c.if-ilabel-ne0.true)
+    simp (sym c.is_tame.ensures ∙ c.if-not-is_tame.false, nonzero_yes c.args.ilabel c.if-ilabel-ne0.true)
 
 pub returns : goal.returns
 unfolding weight_wrong of_bits
 returns c =
-    let f = c.before.before in
-    simp (sym f.is-tame.ensures ∙ c.if-not-is_tame.false, nonzero_no f.before.args.ilabel f.before.ranges.ilabel c.if-ilabel-ne0.false)
+    simp (sym c.is_tame.ensures ∙ c.if-not-is_tame.false, nonzero_no c.args.ilabel c.ranges.ilabel c.if-ilabel-ne0.false)

@@ -4,5 +4,4 @@ use Rattle.hirqazhom.proofs.hirqazhom_fit.Goals as goal
 
 pub returns : goal.returns
 returns c =
-    let d = c.before.before.before.before.before.before.before.before.before.before.before.before.before.before in
-    record { answer = d.fit.result; is = d.fit.ensures; told = c.fitted_answer.ensures }
+    record { answer = c.fit.result; is = c.fit.ensures; told = c.fitted_answer.ensures }

@@ -7,9 +7,6 @@ use Rattle.histories.proofs.hash_older.Goals as goal
 
 pub returns : goal.returns
 returns c =
-    let m = c.before.before.before in
-    let u = m.before in
-    let s = u.before in
-    let w = s.args.word in
-    older_is s.args.h w (u.Unsigned-of.ensures ∙ ap unsigned (back w s.ranges.word.sfits)) m.wrapping-mul.ensures c.wrapping_add_u64.ensures.value
+    let w = c.args.word in
+    older_is c.args.h w (u.Unsigned-of.ensures ∙ ap unsigned (back w c.ranges.word.sfits)) c.wrapping_mul.ensures c.wrapping_add_u64.ensures.value
     c.wrapping_mul-2.ensures

@@ -11,8 +11,7 @@ returns-in_default c = record { is = λ h ok. rw c.in_default.is }
 pub returns-then-gap-m : goal.returns-then-gap-m
 unfolding keeps_of
 returns-then-gap-m c =
-    let s = c.before.before.before.before.before.before.before in
-    record { is = λ h ok. c.worth_keeping.ensures.is h ok ∙ rw (back s.args.over s.ranges.over.sfits, c.in-Within.is, c.if-gap-m.true) }
+    record { is = λ h ok. c.worth_keeping.ensures.is h ok ∙ rw (back c.args.over c.ranges.over.sfits, c.in-Within.is, c.if-gap-m.true) }
 
 pub returns-else-gap-m : goal.returns-else-gap-m
 unfolding keeps_of

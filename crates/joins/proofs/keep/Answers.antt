@@ -23,21 +23,13 @@ answered over f e k = record { is = λ h ok. sym e ∙ k.is h ok ∙ rw (back ov
 
 pub returns-then-not-is_kept : goal.returns-then-not-is_kept
 returns-then-not-is_kept c =
-    let k = c.before in
-    let s = k.before.before.before.before.before.before in
-    drops_loser (answered s.args.over s.ranges.over.sfits (c.if-not-is_kept.true) k.is-kept.ensures) refl
+    drops_loser (answered c.args.over c.ranges.over.sfits (c.if-not-is_kept.true) c.is_kept.ensures) refl
 
 pub returns-then-used-cap : goal.returns-then-used-cap
 returns-then-used-cap c =
-    let k = c.before.before in
-    let s = k.before.before.before.before.before.before in
-    finds_full (answered s.args.over s.ranges.over.sfits (c.if-not-is_kept.false) k.is-kept.ensures) c.if-used-cap.true refl
+    finds_full (answered c.args.over c.ranges.over.sfits (c.if-not-is_kept.false) c.is_kept.ensures) c.if-used-cap.true refl
 
 pub returns : goal.returns
 returns c =
-    let j = c.before.before.before.before.before in
-    let i = j.before.before.before.before.before.before in
-    let k = i.before.before in
-    let s = k.before.before.before.before.before.before in
-    joins_loser (answered s.args.over s.ranges.over.sfits (not-false k.is-kept.result i.before.if1.false) k.is-kept.ensures) (omega (arith, i.if2.false, s.requires.fits))
-    (rw (back s.args.over s.ranges.over.sfits) at j.put-join.ensures)
+    joins_loser (answered c.args.over c.ranges.over.sfits (not-false c.is_kept.result c.if-not-is_kept.false) c.is_kept.ensures) (omega (arith, c.if-used-cap.false, c.requires.fits))
+    (rw (back c.args.over c.ranges.over.sfits) at c.put_join.ensures)

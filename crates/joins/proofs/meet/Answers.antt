@@ -14,33 +14,24 @@ loop-a-init c = c.apart.invariant
 
 pub loop-a-smaller : goal.loop-a-smaller
 loop-a-smaller c =
-    let l = c.before.before.before in
-    let s = l.before.before.before.before in
-    omega (arith, s.requires.0.prev-low (l.loop.a - 1) (omega arith))
+    omega (arith, c.requires.0.prev-low (c.loop-a.a - 1) (omega arith))
 
 pub loop-a-preserved : goal.loop-a-preserved
 loop-a-preserved c =
-    let l = c.before.before.before in
-    let s = l.before.before.before.before in
-    walked_won (l.loop.a - 1) s.requires.0.prev-low c.prev_of-a.ensures (omega arith) (omega arith) l.loop.invariant
+    walked_won (c.loop-a.a - 1) c.requires.0.prev-low c.prev_of-a.ensures (omega arith) (omega arith) c.loop-a.invariant
 
 pub returns-then-join_within : goal.returns-then-join_within
 returns-then-join_within c =
-    let l = c.before.before.before in
-    walked_fits (l.before.apart.b - 1) (omega arith) (omega arith) (sym c.join_within.ensures ∙ c.if-join_within.true) l.loop.invariant
+    walked_fits (c.apart.b - 1) (omega arith) (omega arith) (sym c.join_within.ensures ∙ c.if-join_within.true) c.loop-a.invariant
 
 pub apart-smaller : goal.apart-smaller
 apart-smaller c =
-    let l = c.before.before.before.before in
-    let s = l.before.before.before.before in
-    omega (arith, s.requires.0.prev-low (l.before.apart.b - 1) (omega arith))
+    omega (arith, c.requires.0.prev-low (c.apart.b - 1) (omega arith))
 
 pub apart-preserved : goal.apart-preserved
 apart-preserved c =
-    let l = c.before.before.before.before in
-    let s = l.before.before.before.before in
-    walked_lost (l.before.apart.b - 1) s.requires.0.prev-low c.prev_of-b.ensures (omega arith) (omega arith)
-    (sym c.join_within.ensures ∙ c.if-join_within.false) l.loop.invariant
+    walked_lost (c.apart.b - 1) c.requires.0.prev-low c.prev_of-b.ensures (omega arith) (omega arith)
+    (sym c.join_within.ensures ∙ c.if-join_within.false) c.loop-a.invariant
 
 pub returns : goal.returns
 returns c = walked_met c.if-a-b.true c.loop-a.invariant

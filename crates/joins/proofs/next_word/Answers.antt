@@ -12,39 +12,31 @@ loop-q-init c = (search rules, λ gs h ok. refl)
 
 pub returns-then-word_of-ne0 : goal.returns-then-word_of-ne0
 returns-then-word_of-ne0 c =
-    let l = c.before.before.before in
-    let s = l.before.before in
     let w = c.word_of in
     record {
-      low = l.loop.invariant.0;
+      low = c.loop-q.invariant.0;
       none = λ a. absurd (omega arith);
-      some = λ a gs h ok. l.loop.invariant.1 gs h ok ∙ words_at ok (l.loop.q - 1) s.args.met (omega arith) (omega arith) (omega arith)
+      some = λ a gs h ok. c.loop-q.invariant.1 gs h ok ∙ words_at ok (c.loop-q.q - 1) c.args.met (omega arith) (omega arith) (omega arith)
           ∙ simp (← w.ensures, nonzero_yes w.result c.if-word_of-ne0.true);
     }
 
 pub loop-q-smaller : goal.loop-q-smaller
 loop-q-smaller c =
-    let l = c.before.before.before.before in
-    let s = l.before.before in
-    omega (arith, s.requires.0.prev-low (l.loop.q - 1) (omega arith))
+    omega (arith, c.requires.0.prev-low (c.loop-q.q - 1) (omega arith))
 
 pub loop-q-preserved : goal.loop-q-preserved
 loop-q-preserved c =
-    let l = c.before.before.before.before in
-    let s = l.before.before in
     let w = c.word_of in
-    let d = s.requires.0.prev-low (l.loop.q - 1) (omega arith) in (
+    let d = c.requires.0.prev-low (c.loop-q.q - 1) (omega arith) in (
       omega (arith, c.prev_of-q.ensures),
-      λ gs h ok. l.loop.invariant.1 gs h ok ∙ words_at ok (l.loop.q - 1) s.args.met (omega arith) (omega arith) (omega arith)
+      λ gs h ok. c.loop-q.invariant.1 gs h ok ∙ words_at ok (c.loop-q.q - 1) c.args.met (omega arith) (omega arith) (omega arith)
           ∙ simp (← w.ensures, ← c.prev_of-q.ensures, nonzero_no w.result (record { sfits = w.type-inv }) c.if-word_of-ne0.false),
     )
 
 pub returns : goal.returns
 returns c =
-    let l = c.before in
-    let s = l.before.before in
     record {
-      low = l.loop.invariant.0;
-      none = λ a gs h ok. l.loop.invariant.1 gs h ok ∙ words_none _ s.args.used h ok s.args.met l.loop.q (omega arith) a;
+      low = c.loop-q.invariant.0;
+      none = λ a gs h ok. c.loop-q.invariant.1 gs h ok ∙ words_none _ c.args.used h ok c.args.met c.loop-q.q (omega arith) a;
       some = λ a. absurd (omega arith);
     }

@@ -14,58 +14,44 @@ loop-a-init c = (search rules, search rules, λ gs h ok. refl)
 
 pub returns-then-a-b : goal.returns-then-a-b
 returns-then-a-b c =
-    let l = c.before.before.before in
-    record { is = λ gs h ok. sym (l.loop.invariant.2 gs h ok ∙ one_record c.next_word-a.ensures c.next_word-b.ensures c.if-a-b.true gs h ok) }
+    record { is = λ gs h ok. sym (c.loop-a.invariant.2 gs h ok ∙ one_record c.next_word-a.ensures c.next_word-b.ensures c.if-a-b.true gs h ok) }
 
 pub returns-then-a-met : goal.returns-then-a-met
 returns-then-a-met c =
-    let n = c.before.before in
-    let l = n.before.before in
-    record { is = λ gs h ok. sym (l.loop.invariant.2 gs h ok ∙ ends_with n.next-word2.ensures gs h ok (n.before.next_word.ensures.none c.if-a-met.true gs h ok)) }
+    record { is = λ gs h ok. sym (c.loop-a.invariant.2 gs h ok ∙ ends_with c.next_word-b.ensures gs h ok (c.next_word-a.ensures.none c.if-a-met.true gs h ok)) }
 
 pub returns-then-b-met : goal.returns-then-b-met
 returns-then-b-met c =
-    let n = c.before.before.before in
-    let l = n.before.before in
     record {
-      is = λ gs h ok. sym (l.loop.invariant.2 gs h ok
-          ∙ (one_ends (n.next-word2.ensures.none c.if-b-met.true gs h ok) (n.before.next_word.ensures.some c.if-a-met.false gs h ok)).1);
+      is = λ gs h ok. sym (c.loop-a.invariant.2 gs h ok
+          ∙ (one_ends (c.next_word-b.ensures.none c.if-b-met.true gs h ok) (c.next_word-a.ensures.some c.if-a-met.false gs h ok)).1);
     }
 
 pub returns-then-word_of : goal.returns-then-word_of
 returns-then-word_of c =
-    let v = c.before.before in
-    let n = v.before.before.before.before in
-    let l = n.before.before in
     record {
-      is = λ gs h ok. sym (l.loop.invariant.2 gs h ok ∙ other_next
-          (next_is n.before.next_word.ensures gs h ok v.before.before.if2.false v.word_of.ensures refl)
-          (next_is n.next-word2.ensures gs h ok v.before.if3.false c.word_of-in-loop-a.ensures refl)
+      is = λ gs h ok. sym (c.loop-a.invariant.2 gs h ok ∙ other_next
+          (next_is c.next_word-a.ensures gs h ok c.if-a-met.false c.word_of.ensures refl)
+          (next_is c.next_word-b.ensures gs h ok c.if-b-met.false c.word_of-in-loop-a.ensures refl)
           (λ e. c.if-word_of.true (ap (of_z w32) e)));
     }
 
 pub loop-a-smaller : goal.loop-a-smaller
 loop-a-smaller c =
-    let n = c.before.before.before.before.before.before.before.before in
-    let s = n.before.before.before.before in
-    let p = n.before.next_word in
+    let p = c.next_word-a in
     let i = c.if-a-met.false in
-    omega (arith, s.requires.0.prev-low (p.result - 1) (omega (arith, p.ensures.low)), c.prev_of-a.ensures, p.ensures.low, i)
+    omega (arith, c.requires.0.prev-low (p.result - 1) (omega (arith, p.ensures.low)), c.prev_of-a.ensures, p.ensures.low, i)
 
 pub loop-a-preserved : goal.loop-a-preserved
 loop-a-preserved c =
-    let v = c.before.before.before.before in
-    let n = v.before.before.before.before in
-    let s = n.before.before.before.before in
-    let l = n.before.before in
-    let p = n.before.next_word in
-    let q = n.next-word2 in
-    let x = v.word_of in
+    let p = c.next_word-a in
+    let q = c.next_word-b in
+    let x = c.word_of in
     let y = c.word_of-in-loop-a in (
-      omega (arith, s.requires.0.prev-low (p.result - 1) (omega (arith, p.ensures.low)), c.prev_of-a.ensures, p.ensures.low),
-      omega (arith, s.requires.0.prev-low (q.result - 1) (omega (arith, q.ensures.low)), c.prev_of-b.ensures, q.ensures.low),
-      λ gs h ok. l.loop.invariant.2 gs h ok ∙ same_next
-          (next_is p.ensures gs h ok v.before.before.if2.false x.ensures c.prev_of-a.ensures)
-          (next_is q.ensures gs h ok v.before.if3.false y.ensures c.prev_of-b.ensures)
+      omega (arith, c.requires.0.prev-low (p.result - 1) (omega (arith, p.ensures.low)), c.prev_of-a.ensures, p.ensures.low),
+      omega (arith, c.requires.0.prev-low (q.result - 1) (omega (arith, q.ensures.low)), c.prev_of-b.ensures, q.ensures.low),
+      λ gs h ok. c.loop-a.invariant.2 gs h ok ∙ same_next
+          (next_is p.ensures gs h ok c.if-a-met.false x.ensures c.prev_of-a.ensures)
+          (next_is q.ensures gs h ok c.if-b-met.false y.ensures c.prev_of-b.ensures)
           (bits_eq x.result y.result (record { sfits = x.type-inv }) (record { sfits = y.type-inv }) c.if-word_of.false),
     )

@@ -10,44 +10,35 @@ use Rattle.joins.proofs.same_words.Goals as goal
 
 pub returns-then-over-eq0 : goal.returns-then-over-eq0
 returns-then-over-eq0 c =
-    let s = c.before.before.before in
-    record { is = λ gs h ok. c.same_above.ensures.is gs h ok ∙ simp (nonzero_no s.args.over s.ranges.over c.if-over-eq0.true) }
+    record { is = λ gs h ok. c.same_above.ensures.is gs h ok ∙ simp (nonzero_no c.args.over c.ranges.over c.if-over-eq0.true) }
 
 pub returns-then-a-met : goal.returns-then-a-met
 returns-then-a-met c =
-    let s = c.before.before.before.before in
     record {
       is = λ gs h ok. sym (one_ends
           (c.next_word-a.ensures.none c.if-a-met.true gs h ok)
-          (over_front s.args.over _ (nonzero_yes s.args.over c.if-over-eq0.false))).0;
+          (over_front c.args.over _ (nonzero_yes c.args.over c.if-over-eq0.false))).0;
     }
 
 pub returns-then-word_of-over : goal.returns-then-word_of-over
 returns-then-word_of-over c =
-    let n = c.before.before.before in
-    let s = n.before.before.before in
     record {
       is = λ gs h ok. sym (other_next
-          (next_is n.next_word.ensures gs h ok c.if-a-met.false c.word_of.ensures refl)
-          (over_front s.args.over _ (nonzero_yes s.args.over n.before.if1.false))
+          (next_is c.next_word-a.ensures gs h ok c.if-a-met.false c.word_of.ensures refl)
+          (over_front c.args.over _ (nonzero_yes c.args.over c.if-over-eq0.false))
           (λ e. c.if-word_of-over.true (ap (of_z w32) e)));
     }
 
 pub same_above-requires-2 : goal.same_above-requires-2
 same_above-requires-2 c =
-    let n = c.before.before.before.before in
-    let s = n.before.before.before in
-    let p = n.next_word in
-    (s.requires.0, omega (arith, s.requires.0.prev-low (p.result - 1) (omega (arith, p.ensures.low)), c.prev_of.ensures, p.ensures.low), s.requires.2, s.requires.3)
+    let p = c.next_word-a in
+    (c.requires.0, omega (arith, c.requires.0.prev-low (p.result - 1) (omega (arith, p.ensures.low)), c.prev_of.ensures, p.ensures.low), c.requires.2, c.requires.3)
 
 pub returns : goal.returns
 returns c =
-    let w = c.before.before.before in
-    let n = w.before.before in
-    let s = n.before.before.before in
     record {
       is = λ gs h ok. c.same_above-2.ensures.is gs h ok ∙ sym (same_next
-          (next_is n.next_word.ensures gs h ok w.before.if2.false w.word_of.ensures c.prev_of.ensures)
-          (over_front s.args.over _ (nonzero_yes s.args.over n.before.if1.false))
-          (bits_eq w.word_of.result s.args.over (record { sfits = w.word_of.type-inv }) s.ranges.over c.if-word_of-over.false));
+          (next_is c.next_word-a.ensures gs h ok c.if-a-met.false c.word_of.ensures c.prev_of.ensures)
+          (over_front c.args.over _ (nonzero_yes c.args.over c.if-over-eq0.false))
+          (bits_eq c.word_of.result c.args.over (record { sfits = c.word_of.type-inv }) c.ranges.over c.if-word_of-over.false));
     }

@@ -14,5 +14,4 @@ search-requires c = sym c.parts_wrong.ensures ∙ c.if-parts_wrong.false
 
 pub returns : goal.returns
 returns c =
-    let s = c.before.before.before.before in
-    rw (to_z-of_z w32 s.args.word s.ranges.word) at c.search.ensures
+    rw (to_z-of_z w32 c.args.word c.ranges.word) at c.search.ensures

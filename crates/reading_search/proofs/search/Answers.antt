@@ -42,13 +42,12 @@ slice_bounds-has_word-count c = let f = right-here c in omega arith
 pub returns-then-has_word : goal.returns-then-has_word
 unfolding first_reading
 returns-then-has_word c =
-    let s = c.before.before.before.before.before.before.before.before in
-    let a = s.args in
+    let a = c.args in
     let l = c.loop-reading in
     let w = c.wide-end in
-    let own = to_z-of_z w32 a.word s.ranges.word in
+    let own = to_z-of_z w32 a.word c.ranges.word in
     let here = found_here a.word a.ends.now a.words.now l.from l.reading w.result (held c.before.before.before.before.before.before) c.loop-reading-test.true w.ensures (sym (rw own at c.Has-word.ensures) ∙ c.if-has_word.true) in
-    rw (s.requires, here)
+    rw (c.requires, here)
 
 pub overflow_add-reading : goal.overflow_add-reading
 overflow_add-reading c = omega arith
@@ -67,6 +66,5 @@ loop-reading-preserved c =
 pub returns : goal.returns
 unfolding first_reading
 returns c =
-    let s = c.before.before.before in
     let l = c.loop-reading in
-    rw (s.requires, found_nowhere s.args.word s.args.ends.now s.args.words.now l.from l.reading (held c.before) (omega arith))
+    rw (c.requires, found_nowhere c.args.word c.args.ends.now c.args.words.now l.from l.reading (held c.before) (omega arith))

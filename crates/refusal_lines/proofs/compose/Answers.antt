@@ -28,12 +28,8 @@ put_place-requires c =
 pub returns : goal.returns
 unfolding line_of heading text
 returns c =
-    let place = c.before.before in
-    let name = place.before.before.before.before in
-    let number = name.before.before.before.before in
-    let test = number.before.before.before in
-    let call = test.before.may-have in
-    let x = test.before.before.before.args.refusal in
+    let call = c.may_have in
+    let x = c.args.refusal in
     let n = x.number in
-    rw (sym call.ensures ∙ not-false call.result test.if1.false)
-    (stored_more (heading n) (place_text x.place) (stored_more (numbered (text "refusal ") n) (name_of n) number.put-number.ensures name.put-name.ensures) place.put-place.ensures)
+    rw (sym call.ensures ∙ not-false call.result c.if-not-may_have.false)
+    (stored_more (heading n) (place_text x.place) (stored_more (numbered (text "refusal ") n) (name_of n) c.put_number-named.ensures c.put_name-placed.ensures) c.put_place.ensures)

@@ -26,9 +26,8 @@ slice_bounds-composed-end c = omega (arith, line-length c.refusal_of-refusal.res
 -- what was composed is compared
 written : (c : goal.After-same) → take c.compose-end.result c.compose-end.new.1.0 ≡ line_of c.refusal_of-refusal.result
 written c =
-    let made = c.before.before.before.before in
-    let y = made.before.before.refusal-of.result in
-    stored_front (line_of y) made.compose.ensures (omega (arith, line-length y))
+    let y = c.refusal_of-refusal.result in
+    stored_front (line_of y) c.compose-end.ensures (omega (arith, line-length y))
 
 pub returns-then-same : goal.returns-then-same
 returns-then-same c =

@@ -8,13 +8,11 @@ use Rattle.silence_weighting.proofs.status_of.Goals as goal
 pub returns-then-is_silence : goal.returns-then-is_silence
 unfolding status_of
 returns-then-is_silence c =
-    let a = c.before.before in
-    let e = to_z-of_z w32 a.args.phone a.ranges.phone in
+    let e = to_z-of_z w32 c.args.phone c.ranges.phone in
     simp (sym (rw e at c.is_silence.ensures) ∙ c.if-is_silence.true)
 
 pub returns : goal.returns
 unfolding status_of
 returns c =
-    let a = c.before.before in
-    let e = to_z-of_z w32 a.args.phone a.ranges.phone in
+    let e = to_z-of_z w32 c.args.phone c.ranges.phone in
     simp (sym (rw e at c.is_silence.ensures) ∙ c.if-is_silence.false)

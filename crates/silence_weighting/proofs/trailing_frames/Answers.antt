@@ -38,18 +38,15 @@ bounds-starts-i c = omega arith
 
 pub overflow_sub-n : goal.overflow_sub-n
 overflow_sub-n c =
-    let a = c.before.before.before.before.before.before.before.before.before.before in
-    omega (arith, (good_at a.args.phones.now a.args.starts.now a.args.ends.now a.requires (c.loop-i.i - 1) (omega arith)).0)
+    omega (arith, (good_at c.args.phones.now c.args.starts.now c.args.ends.now c.requires (c.loop-i.i - 1) (omega arith)).0)
 
 pub overflow_cast-n : goal.overflow_cast-n
 overflow_cast-n c =
-    let a = c.before.before.before.before.before.before.before.before.before.before in
-    omega (arith, (good_at a.args.phones.now a.args.starts.now a.args.ends.now a.requires (c.loop-i.i - 1) (omega arith)).1)
+    omega (arith, (good_at c.args.phones.now c.args.starts.now c.args.ends.now c.requires (c.loop-i.i - 1) (omega arith)).1)
 
 pub overflow_add-n : goal.overflow_add-n
 overflow_add-n c =
-    let a = c.before.before.before.before.before.before.before.before.before.before in
-    omega (arith, (good_at a.args.phones.now a.args.starts.now a.args.ends.now a.requires (c.loop-i.i - 1) (omega arith)).1, good_count a.args.phones.now a.args.starts.now a.args.ends.now a.requires)
+    omega (arith, (good_at c.args.phones.now c.args.starts.now c.args.ends.now c.requires (c.loop-i.i - 1) (omega arith)).1, good_count c.args.phones.now c.args.starts.now c.args.ends.now c.requires)
 
 pub loop-i-smaller : goal.loop-i-smaller
 loop-i-smaller c = omega arith

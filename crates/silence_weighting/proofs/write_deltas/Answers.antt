@@ -26,13 +26,11 @@ bounds-weights-f c = omega (arith, c.loop-f.invariant.as_many, c.requires.0.weig
 
 pub overflow_mul-f : goal.overflow_mul-f
 overflow_mul-f c =
-    let a = c.before.before.before.before.before.before.before.before.before.before.before in
-    omega (arith, product_few c.loop-f.f a.args.w.subsampling (omega (arith, a.requires.0.few, c.loop-f-test.true)) a.requires.0.times)
+    omega (arith, product_few c.loop-f.f c.args.w.subsampling (omega (arith, c.requires.0.few, c.loop-f-test.true)) c.requires.0.times)
 
 pub overflow_add-w : goal.overflow_add-w
 overflow_add-w c =
-    let a = c.before.before.before.before.before.before.before.before.before.before.before.before in
-    omega (arith, product_few c.loop-f.f a.args.w.subsampling (omega (arith, a.requires.0.few, c.loop-f-test.true)) a.requires.0.times, a.requires.0.input)
+    omega (arith, product_few c.loop-f.f c.args.w.subsampling (omega (arith, c.requires.0.few, c.loop-f-test.true)) c.requires.0.times, c.requires.0.input)
 
 -- what a step tells has room
 room : (c : goal.After-step-at invariant-loop decreases-loop) → c.loop-f.at + c.step_at-s.result.times ≤ length (deltas_on c.args.w c.args.status.now c.args.weights.now)
@@ -43,12 +41,11 @@ room c =
 
 pub put_frames-requires : goal.put_frames-requires
 put_frames-requires c =
-    let a = c.before.before.before.before.before.before.before.before.before.before.before.before in
     let l = c.loop-f in
     let t = c.step_at-s in
-    let n = times_few a.args.w a.args.status.now l.weights l.previous l.f t.result t.ensures in
-    let p = product_few l.f a.args.w.subsampling (omega (arith, a.requires.0.few, c.loop-f-test.true)) a.requires.0.times in
-    (omega (arith, l.invariant.as-frames, a.requires.1.0, room c.before.before.before), omega (arith, a.requires.0.input, a.requires.0.times))
+    let n = times_few c.args.w c.args.status.now l.weights l.previous l.f t.result t.ensures in
+    let p = product_few l.f c.args.w.subsampling (omega (arith, c.requires.0.few, c.loop-f-test.true)) c.requires.0.times in
+    (omega (arith, l.invariant.as-frames, c.requires.1.0, room c.before.before.before), omega (arith, c.requires.0.input, c.requires.0.times))
 
 pub overflow_add-at : goal.overflow_add-at
 overflow_add-at c = omega (arith, c.requires.1.0, c.well-formed, room c.before.before.before.before.before.before.before.before)

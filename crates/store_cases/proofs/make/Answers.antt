@@ -4,12 +4,11 @@ use Rattle.store_cases.proofs.Keeps.{ready_holds, ready_made}
 use Rattle.store_cases.proofs.make.Goals as goal
 
 pub make_room-m-requires : goal.make_room-m-requires
-make_room-m-requires c = let s = c.before.before.before.before.before.before.before.before in ready_holds _ s.args.tokens.now _ _ _ _ s.requires.0 s.requires.2 s.requires.1 c.if-used-x.false
+make_room-m-requires c = ready_holds _ c.args.tokens.now _ _ _ _ c.requires.0 c.requires.2 c.requires.1 c.if-used-x.false
 
 pub returns : goal.returns
 returns c =
-    let s = c.before.before.before.before.before.before.before.before.before.before.before.before.before.before.before.before.before.before.before.before in
-    let a = s.args in
+    let a = c.args in
     let m = c.make_room-m in
-    ready_made (store a.records.now a.labels.now a.gaps.now) a.tokens.now _ _ _ a.x s.requires.0 s.requires.2 (store m.new.0 m.new.1.0 m.new.1.1.0) m.new.1.1.1.0 _ _
-    s.requires.1 c.if-used-x.false m.auto.1.1.1.0 m.ensures
+    ready_made (store a.records.now a.labels.now a.gaps.now) a.tokens.now _ _ _ a.x c.requires.0 c.requires.2 (store m.new.0 m.new.1.0 m.new.1.1.0) m.new.1.1.1.0 _ _
+    c.requires.1 c.if-used-x.false m.auto.1.1.1.0 m.ensures

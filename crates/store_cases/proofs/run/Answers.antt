@@ -11,13 +11,13 @@ loop-at-init c = (refl, refl, refl, refl, c.empty_store-z.ensures _)
 pub step-z-requires : goal.step-z-requires
 step-z-requires c =
     let l = c.loop-at in
-    let s = c.before.before.before.before.before.before.before.before.before.before.before.before.before.before.before in (
+    (
       record {
-        records = omega (arith, l.invariant.0, s.requires.1.records);
-        labels = omega (arith, l.invariant.1, s.requires.1.labels);
-        gaps = omega (arith, l.invariant.2, s.requires.1.gaps);
+        records = omega (arith, l.invariant.0, c.requires.1.records);
+        labels = omega (arith, l.invariant.1, c.requires.1.labels);
+        gaps = omega (arith, l.invariant.2, c.requires.1.gaps);
       },
-      omega (arith, l.invariant.3, s.requires.2, c.empty_store-z.auto.tokens),
+      omega (arith, l.invariant.3, c.requires.2, c.empty_store-z.auto.tokens),
       l.invariant.4,
     )
 

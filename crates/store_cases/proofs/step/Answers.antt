@@ -4,10 +4,9 @@ use Rattle.store_cases.proofs.step.Goals as goal
 
 pub put_on-used-requires : goal.put_on-used-requires
 put_on-used-requires c =
-    let s = c.before.before.before.before.before.before.before.before.before.before.before.before.before.before.before.before.before in
-    let a = s.args in
-    let r = c.token_line-y.ensures (store a.records.now a.labels.now a.gaps.now) s.requires.2 in
-    (r.few, r.cap-few, s.requires.0)
+    let a = c.args in
+    let r = c.token_line-y.ensures (store a.records.now a.labels.now a.gaps.now) c.requires.2 in
+    (r.few, r.cap-few, c.requires.0)
 
 pub returns : goal.returns
-returns c = let s = c.before.before.before.before.before.before.before.before.before.before.before.before.before.before.before.before.before.before.before.before.before.before.before in c.put_on-used.ensures.ready _ _ (c.token_line-y.ensures _ s.requires.2)
+returns c = c.put_on-used.ensures.ready _ _ (c.token_line-y.ensures _ c.requires.2)

@@ -31,19 +31,9 @@ join_from-join-requires c =
 
 pub returns : goal.returns
 returns c =
-    let put = c.before.before.before.before in
-    let join = put.before.before.before in
-    let skip = join.before.before in
-    let key = skip.before.before in
-    let over = key.before.before in
-    let below = over.before in
-    let joined = below.before.before in
-    let word = joined.before in
-    let prev = word.before in
-    let start = prev.before.before.before.before in
-    let w = word.word_of in
-    let f = start.well-formed.1.1.1.0 in
-    let g = start.requires in
-    let e = put.put-summary.ensures in
-    summed_more (omega arith) (omega arith) (omega arith) g.0 g.1 g.2 prev.prev-of.ensures (back w.result w.type-inv ∙ w.ensures) joined.is_join.ensures
-    below.key-at.ensures over.key-over.ensures key.key-from.ensures skip.skip-from.ensures join.join-from.ensures e.0 e.1
+    let w = c.word_of-word in
+    let f = c.well-formed.1.1.1.0 in
+    let g = c.requires in
+    let e = c.put_summary.ensures in
+    summed_more (omega arith) (omega arith) (omega arith) g.0 g.1 g.2 c.prev_of-prev.ensures (back w.result w.type-inv ∙ w.ensures) c.is_join-joined.ensures
+    c.key_at.ensures c.key_over-whole.ensures c.key_from-key.ensures c.skip_from-skip.ensures c.join_from-join.ensures e.0 e.1
