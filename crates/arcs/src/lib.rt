@@ -1,5 +1,7 @@
 // Every arc of one token that a pass takes, in order. The two passes differ in which arcs they take, in the total and the phone, in the cutoff that a total
 // lowers, and in the queue.
+#![tactic(auto)]
+
 ghost use Rattle.std.specs.Prelude.{◌≡◌, ◌+◌, ◌*◌, ◌≤◌, ◌<◌, ◌^◌, T, pos, nat_abs, length, get_or};
 ghost use Rattle.std.specs.Int.Signed.{non_neg};
 ghost use Rattle.model.specs.Basics.{0f};

@@ -1,4 +1,6 @@
 // One arriving arc: what it meets, and what comes of it. The same for both passes, which differ in the total, the phone and what follows.
+#![tactic(auto)]
+
 ghost use Rattle.std.specs.Prelude.{◌≡◌, ◌+◌, ◌*◌, ◌<◌, ◌≤◌, length};
 ghost use Rattle.tokens.specs.Layout.{place_in, cell_at, token_of};
 ghost use Rattle.compaction.specs.Carried.{Holds};

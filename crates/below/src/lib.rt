@@ -1,5 +1,7 @@
 // The lists below joins: from each join that a history leads to, the cheapest paths down to the start, one for each word list. Joins are visited in ascending order, since
 // a join's own path and its kept history lead to joins of lower number. `lists` has two numbers for each record: the first entry of its list, and how many there are.
+#![tactic(auto)]
+
 ghost use Rattle.std.specs.Prelude.{◌≡◌, ◌*◌, ◌+◌, ◌-◌, ◌≤◌, ◌<◌, cond, length};
 ghost use Rattle.model.specs.Basics.{◌≼◌};
 ghost use Rattle.joins.specs.Walk.{Chains};

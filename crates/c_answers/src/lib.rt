@@ -1,4 +1,6 @@
 // What an answer is told by in C: an enum has no form there, so a struct of numbers tells it, whose `number` is 0 or the refusal's.
+#![tactic(auto)]
+
 ghost use Rattle.std.specs.Prelude.{◌≡◌};
 ghost use Rattle.c_answers.specs.Forms.{accepted, no_decoder, verdict_of, answer_of, fitted_answer, built_verdict, no_path, path_of, no_count, count_of, listed_count, reading_count, no_silence, silence_at, silence_of, weighed_of, trailing_count, no_index, found_index, shuffled_number, course_numbers, refusal_told, line_count, line_verdict};
 

@@ -75,6 +75,7 @@ not_under n a b h k = go (ltb b a)
     go false = h
 
 pub least_each : (k : ℕ) (xs : List ℕ) (x : ℕ) → x ∈ (k ∷ xs) → least_of k xs ≤ x
+least_each k [] x (there i) = elim i [ ]
 least_each k [] x (here e) = omega arith
 least_each k (y ∷ ys) x (here e) = let z = (least_le k (least_of y ys)).0 in omega arith
 least_each k (y ∷ ys) x (there i) = let z = (least_le k (least_of y ys)).1 in let w = least_each y ys x i in omega arith

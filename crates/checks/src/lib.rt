@@ -1,4 +1,6 @@
 // The small checks of a fitting, a frame and a keep margin.
+#![tactic(auto)]
+
 ghost use Rattle.std.specs.Prelude.{◌≡◌, not, ◌||◌, ◌/◌, [], ◌∷◌};
 ghost use Rattle.lists.specs.Lists.{all};
 ghost use Rattle.real32.specs.Small.{tame};

@@ -36,6 +36,7 @@ of_paths (p ∷ ps) z m = case (Memᴰ.append_cases (records p) m) (λ a. (p, he
 
 pub to_paths : (ps : List Path) (p : Path) → p ∈ ps → (z : ℕ) → z ∈ records p → z ∈ records_of ps
 to_paths (q ∷ ps) p (here e) z m = Memᴰ.append_left (records_of ps) (subst (λ (x : Path). z ∈ records x) e m)
+to_paths [] p x'' z m = elim x'' [ ]
 to_paths (q ∷ ps) p (there i) z m = Memᴰ.append_right (records q) (to_paths ps p i z m)
 
 -- ---- a record's

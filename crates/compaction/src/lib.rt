@@ -1,5 +1,7 @@
 // Compaction of the record store: records that no root reaches are dropped, and the others move down in their order and get new numbers. The roots are the records that the
 // two token tables hold, and one in hand. A record's mark, its eighth number, is 0; then 1 where the record is live; then its new number.
+#![tactic(auto)]
+
 ghost use Rattle.std.specs.Prelude.{◌≡◌, ℕ, ◌+◌, ◌-◌, ◌*◌, ◌≤◌, ◌<◌, pos, length};
 ghost use Rattle.std.specs.Float.{nan};
 ghost use Rattle.tokens.specs.Layout.{held_at};

@@ -58,6 +58,7 @@ tail_from [] x m = m
 tail_from (y ∷ xs) x m = there m
 
 kept_below_lem : (finals : Bool) (margin : Float) (cap : ℕ) (rs : List Ranked) (k : Kept) → k ∈ kept_below finals margin cap rs → KeptBy finals margin cap rs k
+kept_below_lem finals margin cap [] k m = elim m [ ]
 kept_below_lem finals margin cap (r ∷ rs) k m = case (Memᴰ.append_cases (map (kept_of finals r) bs) m) first (λ n. later (kept_below_lem finals margin cap rs k n))
   where
     bs : List Below

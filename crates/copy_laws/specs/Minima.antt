@@ -86,6 +86,7 @@ module _ {A K : Type 0} (key : A → K) (alike : K → K → Bool) (alike_is : (
   module _ (before : A → A → Bool) (P : A → Type 0) (strict : Strict P before) where
     -- the first of each key of a sorted list
     pub first_least : (seen xs : List A) → Sorted before xs → ((x : A) → x ∈ xs → P x) → (y : A) → y ∈ firsts same_keyed seen xs → (x : A) → x ∈ xs → key x ≡ key y → before x y ≡ false
+    first_least seen [] s ps y m x n e = elim m [ ]
     first_least seen (z ∷ xs) s ps y m x n e = go (any (same_keyed z) seen) refl m n (first_least seen xs s.1 (λ w k. ps w (there k)) y) (first_least (z ∷ seen) xs s.1 (λ w k. ps w (there k)) y)
       where
         Rest : List A → Type 0

@@ -133,6 +133,7 @@ spell_all n rs qs (marks_emitting {r = x} {rs = xs} {qs = ps} q nz i j d) =
 
 leads_arcs : (g : Graph) (s : ℕ) (route : List Arc) (t : ℕ) → Leads g s route t → (a : Arc) → a ∈ route → (u : ℕ) × (a ∈ arcs_of g u)
 leads_arcs g s (b ∷ route) t l a (here e) = (s, subst (λ (x : Arc). x ∈ arcs_of g s) (sym e) l.0)
+leads_arcs g s [] t l a x'' = elim x'' [ ]
 leads_arcs g s (b ∷ route) t l a (there m) = leads_arcs g b.target route t l.1 a m
 
 phoned : (g : Graph) → GoodGraph g → (s : ℕ) (route : List Arc) (t : ℕ) → Leads g s route t → Phoned g route

@@ -1,4 +1,6 @@
 // The course on the needles at a frame, where a number of courses pass in a number of frames.
+#![tactic(auto)]
+
 ghost use Rattle.std.specs.Prelude.{◌≡◌, ◌/◌, ◌%◌, ◌<◌};
 ghost use Rattle.courses.specs.Course.{course_at};
 

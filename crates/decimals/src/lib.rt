@@ -1,4 +1,6 @@
 // A u32 in decimal, without leading zeros: written, read, and found in a text.
+#![tactic(auto)]
+
 ghost use Rattle.std.specs.Prelude.{◌≡◌, ◌+◌, ◌≤◌, ◌<◌, length};
 ghost use Rattle.decimals.specs.Decimal.{decimal, IsNumber};
 ghost use Rattle.decimals.specs.Stored.{Stored};

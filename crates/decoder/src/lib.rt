@@ -1,4 +1,6 @@
 // The decoder over lent stores: the fitter, starts, frames and the keep margin. The reads are in `decoder_reads` and `decoder_readings`, with contracts that are defined here.
+#![tactic(auto)]
+
 ghost use Rattle.std.specs.Prelude.{◌≡◌, ◌⊎◌, cond, ◌*◌, ◌-◌, ◌/◌, ◌≤◌, ◌<◌, length};
 ghost use Rattle.model.specs.Basics.{0f};
 ghost use Rattle.stores.specs.Rep.{lent};

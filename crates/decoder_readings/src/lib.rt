@@ -1,4 +1,6 @@
 // The decoder's reading list, of the finished table.
+#![tactic(auto)]
+
 ghost use Rattle.std.specs.Prelude.{◌-◌, ◌/◌, [], ◌∷◌, length};
 ghost use Rattle.places.specs.Places.{entry_places, kept_places};
 ghost use Rattle.reading_list.specs.Outputs.{outputs as listOutputs};

@@ -1,4 +1,6 @@
 // The decoder's reads but the reading list: counts, the relative cost, the best path and the alternatives. Each hands the finished table on, and changes no decoder.
+#![tactic(auto)]
+
 ghost use Rattle.std.specs.Prelude.{◌≡◌, ◌/◌, [], ◌∷◌, length};
 ghost use Rattle.traceback.specs.Right.{parts};
 ghost use Rattle.readings.specs.Paths.{outputs};

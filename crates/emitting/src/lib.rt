@@ -1,4 +1,6 @@
 // The emitting pass: the Rust's `emitting`.
+#![tactic(auto)]
+
 ghost use Rattle.std.specs.Prelude.{◌≡◌, ◌-◌, ◌≤◌, ◌<◌, length};
 ghost use Rattle.model.specs.Basics.{∞};
 ghost use Rattle.stores.specs.Rep.{lent};

@@ -1,6 +1,8 @@
 // The entries of the lists below joins: each a path from a join down to the start. They are numbered from 1, and 0 is the path that has reached the start. `hashes` has the
 // hash of an entry's words; `nexts` has three numbers for each: how many words, the entry that it goes on with at the next join, and the join whose kept history it takes
 // (0 for none); `sums` has two: what it costs over the path that it leaves, and its graph sum likewise.
+#![tactic(auto)]
+
 ghost use Rattle.std.specs.Prelude.{◌≡◌, ◌+◌, ◌-◌, ◌*◌, ◌<◌, ◌≤◌, length, if◌then◌else◌};
 ghost use Rattle.entries.specs.Entries.{entry_at, SameKeyIs, HasKeyIs, Room, EntryPut, PutNew};
 ghost use Rattle.entries.specs.Ways.{by_way, WayAsks, way_entries, WithinIs, NextAsks, PickAsks, own_next, picked, FillAsks, FillIs};

@@ -1,4 +1,5 @@
 // The graph as lent slices of numbers, and its builder, which refuses by 1 to 5.
+#![tactic(auto)]
 
 ghost use Rattle.std.specs.Prelude.{◌≡◌, ◌+◌, ◌≤◌, ◌<◌, true, not, [], length, get_or};
 ghost use Rattle.lists.specs.Lists.{any};

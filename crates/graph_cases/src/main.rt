@@ -1,4 +1,6 @@
 // Builds graphs, most of them faulty, and writes a line for each: its name, and what `fst::build` answers. Document 01 says what each line has to be.
+#![tactic(auto)]
+
 ghost use Rattle.std.specs.Prelude.{◌≤◌, ◌≡◌, length};
 
 use fst::{Built, Graph, NO_STATE};

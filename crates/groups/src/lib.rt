@@ -1,4 +1,6 @@
 // Of the tokens that read the same, the first. States are given in the order that counts; what is left is theirs, closed up, in the same order.
+#![tactic(auto)]
+
 ghost use Rattle.std.specs.Prelude.{◌≡◌, ◌≤◌, ◌<◌, cond, length, set};
 ghost use Rattle.summaries.specs.Summed.{Keys, Skips};
 ghost use Rattle.groups.specs.Firsts.{StatesAsk, KeysFilled, RepeatsAsk, RepeatsIs, DropsAsk, dropped, Dropped, KeptAt, ClosedUp, FirstsIs};

@@ -1,6 +1,8 @@
 // The entry points for C: each is a call of `decoder`, `decoder_reads`, `decoder_readings`, `fst`, `silence_weighting`, `reading_search`, `shuffle` or `courses`, with the contract of
 // that call, and its answer told by a struct or a number of `c_answers`. `python3 tools/declare.py` writes what C and Rust see of this file, comments included, into
 // `include/hirqazhom.h` and `rust/src/ffi.rs`.
+#![tactic(auto)]
+
 ghost use Rattle.std.specs.Prelude.{◌≡◌, ◌-◌, ◌/◌, [], ◌∷◌, length};
 ghost use Rattle.model.specs.Search.{first_reading};
 ghost use Rattle.stores.specs.Rep.{lent};

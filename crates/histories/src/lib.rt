@@ -1,4 +1,6 @@
 // What histories read: their words down to the newest join, or down to the start, and the hash of these words.
+#![tactic(auto)]
+
 ghost use Rattle.std.specs.Prelude.{◌≡◌, ◌-◌, ◌*◌, ◌^◌, ◌<◌, ◌≤◌, true, length};
 ghost use Rattle.model.specs.Basics.{unsigned};
 ghost use Rattle.joins.specs.Walk.{Chains};

@@ -1,4 +1,6 @@
 // Joins: what is worth keeping of a loser, and the join that keeps it (the Rust's `worth_keeping`, `keep_lost` and `keep_arrival`).
+#![tactic(auto)]
+
 ghost use Rattle.std.specs.Prelude.{◌≡◌, ◌-◌, ◌*◌, ◌≤◌, ◌<◌, pos, length};
 ghost use Rattle.records.specs.Layout.{store, rec_at};
 ghost use Rattle.records.specs.Shape.{Shape};

@@ -1,5 +1,7 @@
 // The readings that joins kept, as a map: of each hash and number of words the best. `hashes` has the hash of a kept reading's words; `links` has four numbers for each: how
 // many words, the state of its token, the entry that its path goes on with below the token's newest join, and the token's seq; `sums` has two: its rank and its cost.
+#![tactic(auto)]
+
 ghost use Rattle.std.specs.Prelude.{◌≡◌, ◌+◌, ◌-◌, ◌*◌, ◌^◌, ◌<◌, ◌≤◌, [], ◌∷◌, length, if◌then◌else◌};
 ghost use Rattle.model.specs.Basics.{◌⊖◌, ◌⊗◌, 0f, 1f};
 ghost use Rattle.model.specs.Reads.{graph_scale};

@@ -3,6 +3,8 @@
 //
 // The call is "dropped stitch, carrier two" on a busy floor. In every frame carrier three is as likely as carrier two, so that two paths tie to the last bit. The
 // rule for ties decides, each time and on every build the same: states are visited in ascending number, and of equal ranks the newest token wins.
+#![tactic(auto)]
+
 ghost use Rattle.std.specs.Prelude.{◌≤◌, ◌<◌, length};
 ghost use Rattle.stores.specs.Rep.{lent};
 ghost use Rattle.nonemitting.specs.Expand.{graph_tables};
@@ -12,10 +14,12 @@ ghost use Rattle.listen.specs.Held.{Hearing};
 use courses::Course;
 use cutoff::Config;
 use decoder::{Called, Decoder, Fitted};
-use libc::STDOUT_FILENO;
 use refusal_lines::Written;
 use refusals::{Place, Refusal};
 use traceback::BestPath;
+
+// Standard output.
+const STDOUT_FILENO: i32 = 1;
 
 // ---- the recorded call
 

@@ -1,4 +1,6 @@
 // The list of all readings: own groups and kept readings, one of each word list, in the order in which they are listed.
+#![tactic(auto)]
+
 ghost use Rattle.std.specs.Prelude.{◌≡◌, true, ◌&&◌, ◌≤◌, ◌<◌, ltb, length};
 ghost use Rattle.summaries.specs.Summed.{Keys, Summed};
 ghost use Rattle.merged.specs.Items.{kept_first};

@@ -1,1 +1,2 @@
 // Definitions on lists that the library lacks, and their laws: all in specs/.
+#![tactic(auto)]

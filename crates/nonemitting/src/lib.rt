@@ -1,4 +1,6 @@
 // The Rust's `nonemitting`: the epsilon arcs of the tokens of a start or frame, from a queue of states.
+#![tactic(auto)]
+
 ghost use Rattle.std.specs.Prelude.{◌*◌, ◌≤◌, ◌<◌, length};
 ghost use Rattle.nonemitting.specs.Pushes.{StatePushed, PushesIs};
 ghost use Rattle.stores.specs.Rep.{lent};

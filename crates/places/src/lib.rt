@@ -1,4 +1,6 @@
 // How many entries and kept readings the lent slices hold: as many as the slice that holds the fewest.
+#![tactic(auto)]
+
 ghost use Rattle.std.specs.Prelude.{◌≡◌};
 ghost use Rattle.places.specs.Places.{least, entry_places, kept_places};
 

@@ -1,4 +1,6 @@
 // The tokens that count, best first.
+#![tactic(auto)]
+
 ghost use Rattle.std.specs.Prelude.{◌≡◌, not, T};
 ghost use Rattle.std.specs.Float.Ieee.{is_nan};
 ghost use Rattle.ranking.specs.Keys.{key_of};

@@ -1,4 +1,6 @@
 // The reading list: own groups and kept readings in lent slices, the first of them traced.
+#![tactic(auto)]
+
 ghost use Rattle.std.specs.Prelude.{◌⊎◌, ◌≡◌, ◌+◌, ◌*◌, ◌≤◌, ◌<◌, length};
 ghost use Rattle.std.proofs.lemmas.List.Edits.{sets};
 ghost use Rattle.summaries.specs.Summed.{Skips};

@@ -1,4 +1,6 @@
 // The search of a word in a reading list: the words of all readings, and where each reading ends.
+#![tactic(auto)]
+
 ghost use Rattle.std.specs.Prelude.{◌≡◌, false, length};
 ghost use Rattle.model.specs.Search.{parts_wrong, contains, first_reading};
 ghost use Rattle.reading_search.specs.Found.{found_of, listing};

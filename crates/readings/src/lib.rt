@@ -1,4 +1,6 @@
 // Alternatives: the best path of each word list, written one after another.
+#![tactic(auto)]
+
 ghost use Rattle.std.specs.Prelude.{◌≡◌, ◌+◌, ◌*◌, ◌≤◌, ◌<◌, length, take};
 ghost use Rattle.traceback.specs.Trail.{no_trail};
 ghost use Rattle.traceback.specs.Chain.{Walkable, trail_from, SizeIs};

@@ -1,4 +1,6 @@
 // The tests of magnitude, +∞, and the laws of f32 in specs/.
+#![tactic(auto)]
+
 ghost use Rattle.std.specs.Prelude.{◌≡◌, false};
 ghost use Rattle.std.specs.Float.{inf};
 ghost use Rattle.std.specs.Float.Ieee.Scale.{finite};

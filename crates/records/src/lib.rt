@@ -2,6 +2,8 @@
 // record before it, its frame, the phone that it starts (0 for none), and of a join the newest record of the kept history, the phone that the losing arc starts, the
 // loser's phone and the winner's; and a place for the compaction's marks. `labels` has two: its word (0 for none) and the losing arc's. `gaps` has two: what the kept history
 // cost over the winner, and its graph sum likewise. A record with neither word nor phone is a join.
+#![tactic(auto)]
+
 ghost use Rattle.std.specs.Prelude.{◌≡◌, ◌+◌, ◌-◌, ◌*◌, ◌≤◌, ◌<◌, length};
 ghost use Rattle.records.specs.Layout.{prev_at, frame_at, starts_at, kept_at, word_at, cost_at, kept_word_at, kept_starts_at, kept_phone_at, winner_at, store};
 ghost use Rattle.records.specs.Puts.{LinkPut, JoinPut};

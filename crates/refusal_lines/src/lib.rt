@@ -1,4 +1,6 @@
 // The line of a refusal, for a fitter to read: its number, its name and its place, each part with its label and a semicolon.
+#![tactic(auto)]
+
 ghost use Rattle.std.specs.Prelude.{◌≡◌, ◌+◌, ◌≤◌, ◌<◌, length};
 ghost use Rattle.decimals.specs.Stored.{Stored};
 ghost use Rattle.refusal_lines.specs.Line.{numbered, name_of, place_text, between, always_placed, may_have, line_of, refusal_of};

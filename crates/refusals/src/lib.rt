@@ -1,4 +1,5 @@
 // Refusals: their numbers, their places, and the limits that they are judged by.
+#![tactic(auto)]
 
 // Where a refusal was met.
 #[derive(Clone, Copy)]

@@ -5,6 +5,8 @@
 // for each record, so it always fits. Alternatives have places for 16,384 words and as many segments; a reading list for 65,536 entries below joins, 8,192 kept
 // readings, and 4,096 readings with 65,536 words, of which those that are traced have 16,384 words and as many segments. A call that these sizes could answer
 // otherwise gets the answer of a faulty script, and the program ends.
+#![tactic(auto)]
+
 mod decoding;
 mod fits;
 mod graphs;
@@ -12,10 +14,12 @@ mod graphs;
 ghost use Rattle.replay_payloads.specs.Payloads.{Inside};
 ghost use Rattle.replay.specs.Places.{Behind};
 
-use libc::STDIN_FILENO;
 use replay_answers::GRAPH;
 use replay_graph::Tried;
 use script::{NextRecord, Record};
+
+// Standard input.
+const STDIN_FILENO: i32 = 0;
 
 // Where a run of calls ends.
 #[derive(Clone, Copy)]

@@ -1,13 +1,17 @@
 // The answers to a script of decoder calls, written to standard output in the binary form of oracle/FORMAT.md.
+#![tactic(auto)]
+
 mod listed;
 mod paths;
 
 ghost use Rattle.std.specs.Prelude.{◌≤◌};
 
-use libc::STDOUT_FILENO;
 pub use listed::say_readings;
 pub use paths::{say_best_path, say_paths};
 use refusals::{Place, Refusal};
+
+// Standard output.
+const STDOUT_FILENO: i32 = 1;
 
 // The kinds of the calls, which the answers repeat.
 pub const GRAPH: u32 = 1;

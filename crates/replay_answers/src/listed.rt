@@ -3,8 +3,7 @@ ghost use Rattle.std.specs.Prelude.{◌≤◌, ◌<◌};
 ghost use Rattle.replay_answers.specs.Ends.{EndsWithin};
 
 use crate::paths::{Ends, ends_of, say_path};
-use crate::{READINGS, cost_at, label_at, least, less, number_at};
-use libc::STDOUT_FILENO;
+use crate::{READINGS, STDOUT_FILENO, cost_at, label_at, least, less, number_at};
 
 // The answer of the readings of a list, at most 4,096: their number, then each, then the paths of the first `max`.
 pub fn say_readings(

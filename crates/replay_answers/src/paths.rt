@@ -2,8 +2,7 @@
 ghost use Rattle.std.specs.Prelude.{◌≤◌};
 ghost use Rattle.replay_answers.specs.Ends.{EndsWithin};
 
-use crate::{ALTERNATIVES, BEST, cost_at, label_at, least, less, word_at};
-use libc::STDOUT_FILENO;
+use crate::{ALTERNATIVES, BEST, STDOUT_FILENO, cost_at, label_at, least, less, word_at};
 
 // Where the words and the segments of the first paths end.
 #[derive(Clone, Copy)]

@@ -1,4 +1,6 @@
 // The calls of a script that change the decoder, and their answers.
+#![tactic(auto)]
+
 mod calls;
 
 ghost use Rattle.std.specs.Prelude.{◌≡◌};

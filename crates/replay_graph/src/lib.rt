@@ -1,4 +1,6 @@
 // A script's graphs: one is read into arrays, and tried.
+#![tactic(auto)]
+
 mod shape;
 
 ghost use Rattle.std.specs.Prelude.{◌≡◌};

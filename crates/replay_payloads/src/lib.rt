@@ -1,4 +1,6 @@
 // What the payloads of a script's calls ask for, and how much of that the program `replay` lends. A number that is left off at a record's end asks for no limit.
+#![tactic(auto)]
+
 ghost use Rattle.std.specs.Prelude.{◌≡◌, ◌≤◌, ◌<◌, ◌^◌, min};
 ghost use Rattle.script.specs.Words.{word_count};
 ghost use Rattle.replay_payloads.specs.Payloads.{Inside, asked_for, shaped_as, config_at};

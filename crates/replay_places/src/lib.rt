@@ -1,4 +1,6 @@
 // The arrays of the program `replay`, all zeros. An `ensures` gives the length alone, which lending the array as a slice needs.
+#![tactic(auto)]
+
 ghost use Rattle.std.specs.Prelude.{◌≡◌, length};
 
 // For the script, in bytes.

@@ -1,4 +1,6 @@
 // The reads of a script, answered from the decoder's stores.
+#![tactic(auto)]
+
 mod alternatives;
 mod best;
 mod calls;

@@ -1,11 +1,17 @@
 // Reads a script of silence calls from standard input and writes their answers, both in the binary form of oracle/FORMAT.md.
+#![tactic(auto)]
+
 ghost use Rattle.std.specs.Prelude.{◌≡◌, ◌+◌, ◌*◌, ◌≤◌, length};
 ghost use Rattle.script.specs.Words.{word_count};
 ghost use Rattle.replay_silence.specs.Shape.{CountWithin, FillUp};
 
-use libc::{STDIN_FILENO, STDOUT_FILENO};
 use script::{NextRecord, Record};
 use silence_weighting::{Next, SilenceWeighting, Trailing, Weighed};
+
+// Standard input.
+const STDIN_FILENO: i32 = 0;
+// Standard output.
+const STDOUT_FILENO: i32 = 1;
 
 // The kinds of the calls.
 const NEW: u32 = 20;

@@ -2,9 +2,8 @@
 ghost use Rattle.std.specs.Prelude.{◌+◌, ◌≤◌};
 ghost use Rattle.script.specs.Words.{word_count};
 
-use crate::{say, say_fault};
+use crate::{STDOUT_FILENO, say, say_fault};
 use courses::Course;
-use libc::STDOUT_FILENO;
 use script::Record;
 
 // The kind.

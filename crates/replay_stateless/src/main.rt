@@ -1,4 +1,6 @@
 // Reads a script of calls that keep nothing between them, searches, shuffles, courses and lines of refusals, from standard input and writes their answers, both in the binary form of oracle/FORMAT.md.
+#![tactic(auto)]
+
 mod course_calls;
 mod line_calls;
 mod searches;
@@ -8,11 +10,15 @@ ghost use Rattle.std.specs.Prelude.{◌+◌, ◌≤◌};
 ghost use Rattle.script.specs.Words.{word_count};
 
 use course_calls::COURSE;
-use libc::{STDIN_FILENO, STDOUT_FILENO};
 use line_calls::{LINE, READ_LINE};
 use script::{NextRecord, Record};
 use searches::SEARCH;
 use shuffles::{SHUFFLE, UNSHUFFLE};
+
+// Standard input.
+const STDIN_FILENO: i32 = 0;
+// Standard output.
+const STDOUT_FILENO: i32 = 1;
 
 // The whole script is read at once. One that fills the places may not have ended, and gets a fault for its only answer.
 fn main() {

@@ -4,8 +4,7 @@ ghost use Rattle.reading_search.specs.Found.{Below};
 ghost use Rattle.script.specs.Words.{word_count};
 ghost use Rattle.replay_stateless.specs.Shape.{FillUp};
 
-use crate::say_fault;
-use libc::STDOUT_FILENO;
+use crate::{STDOUT_FILENO, say_fault};
 use reading_search::Found;
 use script::Record;
 

@@ -2,8 +2,7 @@
 ghost use Rattle.std.specs.Prelude.{◌+◌, ◌≤◌, length};
 ghost use Rattle.script.specs.Words.{word_count};
 
-use crate::{say, say_fault};
-use libc::STDOUT_FILENO;
+use crate::{STDOUT_FILENO, say, say_fault};
 use script::Record;
 use shuffle::Shuffled;
 

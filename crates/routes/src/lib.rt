@@ -1,5 +1,7 @@
 // The words of a history along a route, newest first, how many each record's history has, and the routes of entries. At a join on the route the walk goes down the kept history,
 // at any other down the winner's.
+#![tactic(auto)]
+
 ghost use Rattle.std.specs.Prelude.{◌≡◌, ◌+◌, ◌-◌, ◌*◌, ◌≤◌, ◌<◌, ◌&&◌, ◌||◌, cond, reverse, length};
 ghost use Rattle.model.specs.Basics.{eqℤ, ltℤ, nonzero};
 ghost use Rattle.model.specs.Path.{same_words};

@@ -1,5 +1,7 @@
 // Scripts and answers in the binary form of oracle/FORMAT.md, which the replay programs share: a stream of 32-bit little-endian words.
 // A word's place is its index among the words.
+#![tactic(auto)]
+
 ghost use Rattle.std.specs.Prelude.{◌≡◌};
 ghost use Rattle.std.specs.Int.{w32};
 ghost use Rattle.std.proofs.Common.{to_z, of_z};

@@ -1,4 +1,6 @@
 // Bytes of a block of four-byte numbers by their place in the number, and back.
+#![tactic(auto)]
+
 ghost use Rattle.std.specs.Prelude.{◌≡◌};
 ghost use Rattle.shuffle.specs.Block.{wrong, shuffled, unshuffled, Rearranged};
 

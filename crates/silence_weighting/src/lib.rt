@@ -1,6 +1,8 @@
 // The Rust's `SilenceWeighting`, and `trailing_silence_frames`: what each frame weighs in the statistics, by what the best path says of it.
 // Silence phones, segments and the frame list are lent with each call. There are as many segments as all three of their slices hold, and the
 // frame list's store has the frames that fit both of its slices: a status (0 unknown, 1 speech, 2 silence) and a weight for each.
+#![tactic(auto)]
+
 ghost use Rattle.std.specs.Prelude.{◌≡◌, false, reverse, ◌+◌, ◌-◌, ◌≤◌, ◌<◌, ◌^◌, min, max, length, replicate};
 ghost use Rattle.std.proofs.lemmas.List.Edits.{sets};
 ghost use Rattle.lists.specs.Lists.{range};

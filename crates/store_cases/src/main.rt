@@ -8,6 +8,8 @@
 //   tokens 0 0   writes what each place holds: its record's number plus one, 0 for none
 //   records A B  writes the records from A to B: number, the one before, frame, the phone that it starts, the kept history, whether it has a word, whether its gap is 1 or more
 // A new record's frame is the number of records before it. A line that asks for what is not there does nothing.
+#![tactic(auto)]
+
 ghost use Rattle.std.specs.Prelude.{◌≡◌, ◌+◌, ◌*◌, ◌≤◌, ◌<◌, length};
 ghost use Rattle.records.specs.Layout.{Store, store};
 ghost use Rattle.store_cases.specs.Ready.{Ready, Lent, LinksOn, RecordsPut, HeldPut};

@@ -24,6 +24,7 @@ use Rattle.stores.specs.Rep.{Lent, store_of, Places, Rep}
 -- ---- tokens of a table
 
 pub token_at : (ts : Table) (t : Token) → t ∈ tokens ts → (s : ℕ) × (s < length ts) × (get_or ts s none ≡ some t)
+token_at [] t m = elim m [ ]
 token_at (none ∷ ts) t m = let (s, l, e) = token_at ts t m in (suc s, omega arith, e)
 token_at (some u ∷ ts) t (here e) = (0, omega arith, ap some (sym e))
 token_at (some u ∷ ts) t (there m) = let (s, l, e) = token_at ts t m in (suc s, omega arith, e)

@@ -1,6 +1,8 @@
 // A table of the records' histories, filled once and in ascending order, since the record before a record has a lower number. `history_keys` has two numbers for each record:
 // the key of its history's words down to the start, and of those down to its newest join. `history_skips` has two: the first record from it down that has a word or is a join,
 // and its newest join. So a key is read and not walked, and a walk passes few records that say nothing.
+#![tactic(auto)]
+
 ghost use Rattle.std.specs.Prelude.{◌≡◌, true, ◌||◌, cond, ◌+◌, ◌*◌, ◌≤◌, ◌<◌, length, set};
 ghost use Rattle.model.specs.Basics.{nonzero};
 ghost use Rattle.joins.specs.Walk.{Chains};

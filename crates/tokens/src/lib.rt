@@ -3,6 +3,8 @@
 // `sums` has four for each state, two for each table: the token's cost and graph sum.
 // Sixteen states make a block, and the marks of block k stand at state k: one bit for each of its states that is active, and sixteen bits up one for each that
 // was requeued. So a table is emptied block by block, and a pass over the active states skips the blocks that have none.
+#![tactic(auto)]
+
 ghost use Rattle.std.specs.Prelude.{◌≡◌, ◌+◌, ◌-◌, ◌*◌, ◌≤◌, ◌<◌, ltb, length};
 ghost use Rattle.tokens.specs.Layout.{place_in, active_in, requeued_in, bit_at, held_at, requeued_at, cost_at, cell_at, token_of, marked, TokenPut, Cleared, Requeued, FirstBit, NextBlock, NextActive};
 

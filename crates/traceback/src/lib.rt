@@ -1,5 +1,7 @@
 // What is read between calls, of the finished token table and the record store: how many tokens are active, the relative cost, the best token, and a path's words
 // and phones. The stores are lent to be read; a trace is written to the front of three lent parts.
+#![tactic(auto)]
+
 ghost use Rattle.std.specs.Prelude.{◌≡◌, ◌+◌, ◌-◌, ◌*◌, ◌≤◌, ◌<◌, ◌^◌, ◌&&◌, ◌||◌, ltb, length};
 ghost use Rattle.std.specs.Float.Ieee.{eq};
 ghost use Rattle.real32.specs.Least.{fmin};

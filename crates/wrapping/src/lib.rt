@@ -1,4 +1,6 @@
 // Multiplication that wraps, as the 64-bit hash of word lists uses it.
+#![tactic(auto)]
+
 ghost use Rattle.std.specs.Prelude.{◌≡◌, ◌*◌, ◌%◌, ◌^◌};
 
 // a * b modulo 2^64. Of the four products of halves the highest wraps away, and of the middle two only the low half counts.

@@ -21,8 +21,7 @@ slide_one-n-requires c =
 pub loop-k-preserved : goal.loop-k-preserved
 loop-k-preserved c =
     let o = c.slide_one-n in
-    let l = c.loop-k in
-    (
+    let l = c.loop-k in (
       omega (arith, c.loop-k-test.true),
       o.ensures.few,
       o.auto.0 ∙ l.invariant.2,

@@ -10,8 +10,7 @@ loop-at-init c = (refl, refl, refl, refl, c.empty_store-z.ensures _)
 
 pub step-z-requires : goal.step-z-requires
 step-z-requires c =
-    let l = c.loop-at in
-    (
+    let l = c.loop-at in (
       record {
         records = omega (arith, l.invariant.0, c.requires.1.records);
         labels = omega (arith, l.invariant.1, c.requires.1.labels);
