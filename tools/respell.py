@@ -28,6 +28,35 @@ LOCAL = {
 }
 
 
+# What a definition is called whose name in snake case is a lemma's or a field's elsewhere.
+INSTEAD = {
+    "arc_on_lem": "arc_onto",
+    "link_on_lem": "link_onto",
+    "cut_off_lem": "past_cutoff",
+    "words_on_lem": "words_along",
+    "in_hand_lem": "path_in_hand",
+    "per_state_lem": "for_states",
+    "per_record_lem": "for_records",
+    "per_kept_lem": "for_kept",
+    "by_own_lem": "by_own_head",
+    "counts_at_lem": "counts_in_place",
+    "expand_by_lem": "expand_arc_by",
+    "join_put_lem": "join_written",
+    "link_put_lem": "link_written",
+    "kept_before_lem": "kept_is_before",
+    "kept_from_lem": "kept_starts_from",
+    "kept_in_lem": "kept_read_in",
+    "kept_is_lem": "kept_found",
+    "look_by_lem": "look_arc_by",
+    "own_left_lem": "own_still_left",
+    "part_to_lem": "part_up_to",
+    "state_in_lem": "state_among",
+    "step_by_lem": "step_arc_by",
+    "token_is_lem": "token_itself",
+    "was_there_lem": "was_present",
+}
+
+
 def antt_files():
     return sorted(glob.glob("crates/*/specs/**/*.antt", recursive=True) + glob.glob("crates/*/proofs/**/*.antt", recursive=True))
 
@@ -102,7 +131,7 @@ def table():
             new += "_lem"
         to[name] = new
         used[new] = name
-    return {a: b for a, b in to.items() if a != b} | LOCAL
+    return {a: INSTEAD.get(b, b) for a, b in to.items() if a != b} | LOCAL
 
 
 def imported(text, pattern):

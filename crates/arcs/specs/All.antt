@@ -50,11 +50,11 @@ arcs_next p s i l =
 -- ---- one arc
 
 -- what the definition does with arc i
-abbrev pub step_by_lem : Here → ModelPass → Token → Arc → ModelWork → Bool → Outcome ModelWork
-step_by_lem H P t a w b = elim b as (λ z. Outcome ModelWork) [ true ↦ arrive H P t a w | false ↦ ok w ]
+abbrev pub step_arc_by : Here → ModelPass → Token → Arc → ModelWork → Bool → Outcome ModelWork
+step_arc_by H P t a w b = elim b as (λ z. Outcome ModelWork) [ true ↦ arrive H P t a w | false ↦ ok w ]
 
 abbrev pub step_of : {g : Setting} {m : Lent} {qs eps : List ℕ} {pass : Pass} {p : Part} {x : Work} {source : Stored} → AllGiven g m qs eps pass p x source → (i : ℕ) → Outcome ModelWork
-step_of {pass = pass} {p = p} G i = let a = arc_in p G.s i in let P = pass_of pass p.loglikes in step_by_lem G.H P G.t a G.w (takes P a)
+step_of {pass = pass} {p = p} G i = let a = arc_in p G.s i in let P = pass_of pass p.loglikes in step_arc_by G.H P G.t a G.w (takes P a)
 
 abbrev pub StepIs : (g : Setting) → (m m' : Lent) → (qs qs' eps : List ℕ) → Pass → Part → Work → Stored → (i : ℕ) → Passed → Type 0
 StepIs g m m' qs qs' eps pass p x source i r = (G : AllGiven g m qs eps pass p x source) → PassedBy g m' qs' G.done G.t.path (step_of G i) r
@@ -63,8 +63,8 @@ module _ {g : Setting} {m : Lent} {qs eps : List ℕ} {pass : Pass} {p : Part} {
   abbrev PassAt : Lent → List ℕ → Outcome ModelWork → Passed → Type 0
   PassAt m' qs' = PassedBy g m' qs' G.done G.t.path
 
-  test_is : {b : Bool} → takes_label pass (get_or p.ilabels i (pos 0)) ≡ b → step_of G i ≡ step_by_lem G.H (pass_of pass p.loglikes) G.t (arc_in p G.s i) G.w b
-  test_is e = ap (step_by_lem G.H (pass_of pass p.loglikes) G.t (arc_in p G.s i) G.w) (takes_is pass p G.s i ∙ e)
+  test_is : {b : Bool} → takes_label pass (get_or p.ilabels i (pos 0)) ≡ b → step_of G i ≡ step_arc_by G.H (pass_of pass p.loglikes) G.t (arc_in p G.s i) G.w b
+  test_is e = ap (step_arc_by G.H (pass_of pass p.loglikes) G.t (arc_in p G.s i) G.w) (takes_is pass p G.s i ∙ e)
 
   pub step_skips : takes_label pass (get_or p.ilabels i (pos 0)) ≡ false → PassAt m qs (step_of G i) (On x)
   step_skips e = subst (λ (o : Outcome ModelWork). PassAt m qs o (On x)) (sym (test_is e)) (passed_on G.at)
@@ -102,11 +102,11 @@ module _ {g : Setting} {m : Lent} {qs eps : List ℕ} {pass : Pass} {p : Part} {
 
 -- ---- the loop
 
-all_steps : (H : Here) (P : ModelPass) (t : Token) (a : Arc) (rest : List Arc) (w : ModelWork) → arrive_all H P t (a ∷ rest) w ≡ (step_by_lem H P t a w (takes P a) >>= λ v. arrive_all H P t rest v)
+all_steps : (H : Here) (P : ModelPass) (t : Token) (a : Arc) (rest : List Arc) (w : ModelWork) → arrive_all H P t (a ∷ rest) w ≡ (step_arc_by H P t a w (takes P a) >>= λ v. arrive_all H P t rest v)
 unfolding arrive_all
 all_steps H P t a rest w = go (takes P a)
   where
-    go : (b : Bool) → elim b as (λ z. Outcome ModelWork) [ true ↦ arrive H P t a w >>= λ v. arrive_all H P t rest v | false ↦ arrive_all H P t rest w ] ≡ (step_by_lem H P t a w b >>= λ v. arrive_all H P t rest v)
+    go : (b : Bool) → elim b as (λ z. Outcome ModelWork) [ true ↦ arrive H P t a w >>= λ v. arrive_all H P t rest v | false ↦ arrive_all H P t rest w ] ≡ (step_arc_by H P t a w b >>= λ v. arrive_all H P t rest v)
     go true = refl
     go false = refl
 

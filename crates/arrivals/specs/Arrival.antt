@@ -5,7 +5,7 @@ use Rattle.std.proofs.Math.Option.{Option, none, some}
 use Rattle.model.specs.Basics.{◌≺◌, ◌≼◌, ◌⊕◌, ◌⊖◌, eqℤ, nonzero}
 use Rattle.model.specs.Graph.{Arc}
 use Rattle.model.specs.Path.{Token, is_link}
-use Rattle.model.specs.Arrive.{Pass, total, phone_after, Here, Meets as Met, cut_off_lem, vacant, better, not_better, against, meets, step_on}
+use Rattle.model.specs.Arrive.{Pass, total, phone_after, Here, Meets as Met, past_cutoff, vacant, better, not_better, against, meets, step_on}
 use Rattle.tokens.specs.declared.Token.{Token as Stored}
 use Rattle.tokens.specs.Layout.{Cell}
 use Rattle.records.specs.History.{History}
@@ -44,7 +44,7 @@ is_cut_off (NotBetter x) = false
 
 -- the model's answer, which names the token that is met too
 pub data MeetsIs : Meets → Met → Type 0 where
-  is_cut : MeetsIs CutOff cut_off_lem
+  is_cut : MeetsIs CutOff past_cutoff
   is_vacant : MeetsIs Vacant vacant
   is_better : (gap : Float) (held : Token) → MeetsIs (Better gap) (better gap held)
   is_not_better : (gap : Float) (held : Token) → MeetsIs (NotBetter gap) (not_better gap held)
@@ -85,7 +85,7 @@ meets_is g used cut tot c o w = go (cut ≼ tot)
     of_place none (shows_none e) = rw e is_vacant
     of_place (some t) (shows_token s e i) = rw (e, lt-ltb 0 (suc s.link) (omega arith), i.cost) (of_cost (tot ≺ t.cost) (t.cost ⊖ tot) (tot ⊖ t.cost) t)
 
-    go : (b : Bool) → MeetsIs (cond b CutOff (cond (nat_lt 0 c.held) (cond (tot ≺ c.cost) (Better (c.cost ⊖ tot)) (NotBetter (tot ⊖ c.cost))) Vacant)) (elim b as (λ x. Met) [ true ↦ cut_off_lem | false ↦ against tot o ])
+    go : (b : Bool) → MeetsIs (cond b CutOff (cond (nat_lt 0 c.held) (cond (tot ≺ c.cost) (Better (c.cost ⊖ tot)) (NotBetter (tot ⊖ c.cost))) Vacant)) (elim b as (λ x. Met) [ true ↦ past_cutoff | false ↦ against tot o ])
     go true = is_cut
     go false = of_place o w
 

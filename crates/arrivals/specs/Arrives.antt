@@ -9,7 +9,7 @@ use Rattle.real32.specs.Small.{tame}
 use Rattle.model.specs.Basics.{◌≺◌, ◌≼◌, ◌⊖◌, Outcome, ok}
 use Rattle.model.specs.Graph.{Arc}
 use Rattle.model.specs.Path.{Path, Token, paths}
-use Rattle.model.specs.Arrive.{Pass, total, Here, Work, Meets as Met, cut_off_lem, vacant, better, not_better, against, meets, in_hand_lem, Change, arc_cut, token_stays, token_wins, token_joins, settle, passed, put, place_of}
+use Rattle.model.specs.Arrive.{Pass, total, Here, Work, Meets as Met, past_cutoff, vacant, better, not_better, against, meets, path_in_hand, Change, arc_cut, token_stays, token_wins, token_joins, settle, passed, put, place_of}
 use Rattle.model.specs.Came.{SettledBy, settle_settled}
 use Rattle.model.specs.Accepted.{Ok}
 use Rattle.tokens.specs.declared.Token.{Token as Stored}
@@ -76,13 +76,13 @@ module _ (H : Here) (P : Pass) (t : Token) (arc : Arc) (w : Work) (cut tot : Flo
 
   -- by what the arc met
   abbrev of_met : Bool → Option Token → Met
-  of_met b o = elim b as (λ x. Met) [ true ↦ cut_off_lem | false ↦ against tot o ]
+  of_met b o = elim b as (λ x. Met) [ true ↦ past_cutoff | false ↦ against tot o ]
 
   abbrev of_cost : Bool → Token → Met
   of_cost b held = cond b (better (held.cost ⊖ tot) held) (not_better (tot ⊖ held.cost) held)
 
   wins_left : (q : ℕ) (b : Bool) (o : Option Token) → place_of w arc ≡ o → settle H P t arc w (of_met b o) ≡ ok (token_wins u q) → Left q
-  wins_left q true o e s = let z = ap seq_of (settled_by (token_wins u q) cut_off_lem s) in absurd (omega arith)
+  wins_left q true o e s = let z = ap seq_of (settled_by (token_wins u q) past_cutoff s) in absurd (omega arith)
   wins_left q false none e s = let z = ap seq_of (settled_by (token_wins u q) vacant s).2 in filled e q (omega arith)
   wins_left q false (some held) e s = go (tot ≺ held.cost) s
     where
@@ -97,7 +97,7 @@ module _ (H : Here) (P : Pass) (t : Token) (arc : Arc) (w : Work) (cut tot : Flo
   joins_of (token_joins v) = 1
 
   joins_left : (b : Bool) (o : Option Token) → place_of w arc ≡ o → settle H P t arc w (of_met b o) ≡ ok (token_joins u) → Left w.seq
-  joins_left true o e s = let z = ap joins_of (settled_by (token_joins u) cut_off_lem s) in absurd (omega arith)
+  joins_left true o e s = let z = ap joins_of (settled_by (token_joins u) past_cutoff s) in absurd (omega arith)
   joins_left false none e s = let z = ap joins_of (settled_by (token_joins u) vacant s).2 in absurd (omega arith)
   joins_left false (some held) e s = replaced held e
 
@@ -149,7 +149,7 @@ module _ (g : Setting) (m : Lent) (cutoff : Float) (y : Going) (x : Stored) (a :
   old_is = let r = G.stood.rep in record { h = r.h; used = y.used; fits = G.stood.fits; stands = r.stands; finished = r.finished }
 
   -- the live paths, as the model lists them
-  live_is : (F : List Path → Type 0) → F (t.path ∷ (paths w.table ++ paths G.done)) → F (in_hand_lem H w t.path)
+  live_is : (F : List Path → Type 0) → F (t.path ∷ (paths w.table ++ paths G.done)) → F (path_in_hand H w t.path)
   live_is F = subst (λ (qs : List Path). F (t.path ∷ (paths w.table ++ qs))) (sym G.pass.before)
 
   -- what safety asks first
@@ -194,7 +194,7 @@ module _ (g : Setting) (m : Lent) (cutoff : Float) (y : Going) (x : Stored) (a :
 
     -- from what the stores stand for
     make_ready : (v : Made) (r : Rep g.side g.states m₁ v.used v.x t.path G.done w.table w.fresh) → v.used ≤ g.cap → ((q : ℕ) → requeued_at tk₁ q ≡ requeued_at m.tokens q)
-        → (Tight 2 g.cap r.h v.used (in_hand_lem H w t.path) ⊎ ((links (x₁ v) a ≡ false) × (g.keeps ≡ false))) → Ready v
+        → (Tight 2 g.cap r.h v.used (path_in_hand H w t.path) ⊎ ((links (x₁ v) a ≡ false) × (g.keeps ≡ false))) → Ready v
     make_ready v r f e d =
         let z = G.stood in
         let c = G.pass in

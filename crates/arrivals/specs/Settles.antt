@@ -10,8 +10,8 @@ use Rattle.lists.specs.Tests.{case, never}
 use Rattle.real32.specs.Small.{tame}
 use Rattle.model.specs.Basics.{◌≺◌, ◌≼◌, ◌⊖◌, Outcome, ok, refused, ◌>>=◌, check}
 use Rattle.model.specs.Graph.{Arc}
-use Rattle.model.specs.Path.{Step, Path, arc_on_lem, Token, paths, is_link, full_at}
-use Rattle.model.specs.Arrive.{Pass, total, Here, Work, Meets as Met, vacant, better, not_better, step_on, arriving, joined, keeps, keep, in_hand_lem, check_winner, Change, token_stays, token_wins, token_joins, or_else, joins_or_stays, fills, beats, loses, settle, place_of, meets}
+use Rattle.model.specs.Path.{Step, Path, arc_onto, Token, paths, is_link, full_at}
+use Rattle.model.specs.Arrive.{Pass, total, Here, Work, Meets as Met, vacant, better, not_better, step_on, arriving, joined, keeps, keep, path_in_hand, check_winner, Change, token_stays, token_wins, token_joins, or_else, joins_or_stays, fills, beats, loses, settle, place_of, meets}
 use Rattle.tokens.specs.declared.Token.{Token as Stored}
 use Rattle.tokens.specs.Layout.{Cell, cell_of, token_of}
 use Rattle.records.specs.History.{History, tag, history_of}
@@ -51,8 +51,8 @@ pub record Scene (H : Here) (P : Pass) (t : Token) (arc : Arc) (w : Work) (g : S
   pub stands : Stands s used h
   pub hand : Is h used x.link t.path
   pub newest : tag (h used) ≤ w.fresh
-  pub known : Known h used (in_hand_lem H w t.path)
-  pub meter : Tight 2 g.cap h used (in_hand_lem H w t.path) ⊎ ((links x a ≡ false) × (g.keeps ≡ false))
+  pub known : Known h used (path_in_hand H w t.path)
+  pub meter : Tight 2 g.cap h used (path_in_hand H w t.path) ⊎ ((links x a ≡ false) × (g.keeps ≡ false))
 
 -- the store after records were put on
 pub record Survives (h : ℕ → History) (used : ℕ) (s' : Store) (cap : ℕ) : Type 0 where
@@ -91,13 +91,13 @@ module _ (H : Here) (P : Pass) (t : Token) (arc : Arc) (w : Work) (g : Setting) 
   Ends s' o r = SettleEnds h k.used s s' g.cap w.fresh w.seq o r
 
   -- 13 for the arc's own record
-  exact : links x a ≡ true → H.limits.full (in_hand_lem H w t.path) ≡ (k.used == g.cap)
+  exact : links x a ≡ true → H.limits.full (path_in_hand H w t.path) ≡ (k.used == g.cap)
   exact l =
-      S.full (in_hand_lem H w t.path) ∙
-      case S.meter (λ m. full_is s k.used h S.stands (in_hand_lem H w t.path) S.known g.cap S.fits (tight_less 1 g.cap h k.used (in_hand_lem H w t.path) m)) (λ m. never (sym m.0 ∙ l))
+      S.full (path_in_hand H w t.path) ∙
+      case S.meter (λ m. full_is s k.used h S.stands (path_in_hand H w t.path) S.known g.cap S.fits (tight_less 1 g.cap h k.used (path_in_hand H w t.path) m)) (λ m. never (sym m.0 ∙ l))
 
   -- the new token
-  new_is : (h' : ℕ → History) (used' l p q : ℕ) → p ≡ q → Is h' used' l (arc_on_lem (step_on H P t arc w.fresh false) t.path) → TokenIs h' used' (new_token a l p) (arriving H P t arc w.fresh q false)
+  new_is : (h' : ℕ → History) (used' l p q : ℕ) → p ≡ q → Is h' used' l (arc_onto (step_on H P t arc w.fresh false) t.path) → TokenIs h' used' (new_token a l p) (arriving H P t arc w.fresh q false)
   unfolding arriving
   new_is h' used' l p q e i = record { cost = S.arrival.total; graph = S.arrival.graph; link = i; phone = S.arrival.phone; seq = e }
 
@@ -116,6 +116,8 @@ module _ (H : Here) (P : Pass) (t : Token) (arc : Arc) (w : Work) (g : Setting) 
     fills_is room (Refused n) (fill_refused p) =
         let o = on_by (NotOn n) p in
         rw (small, o.0) (ends_refused n o.1 (survives_same h k.used g.cap s s' S.fits S.stands o.2))
+    fills_is room Stays x'' = elim x'' [ ]
+    fills_is room (Joins _ _) x5 = elim x5 [ ]
     fills_is room (Wins y c) (fill_wins {l} {u} p) =
         let o = on_by (On l u) p in
         let e : next_seq k ≡ suc w.seq = mod-eq_of_lt (omega arith) ∙ omega arith in
@@ -147,12 +149,12 @@ module _ (H : Here) (P : Pass) (t : Token) (arc : Arc) (w : Work) (g : Setting) 
     beside_frame = refl
 
     -- where a loser can be kept the meter is exact
-    kept_full : (z : Store) (h' : ℕ → History) (used' : ℕ) (p : Path) (won lost : Token) → Stands z used' h' → used' ≤ g.cap → Known h' used' (in_hand_lem H w p)
-        → (Tight 2 g.cap h k.used (in_hand_lem H w t.path) → Tight 1 g.cap h' used' (in_hand_lem H w p)) → keeps H.margin gap won lost ≡ true → H.limits.full (in_hand_lem H w p) ≡ (used' == g.cap)
+    kept_full : (z : Store) (h' : ℕ → History) (used' : ℕ) (p : Path) (won lost : Token) → Stands z used' h' → used' ≤ g.cap → Known h' used' (path_in_hand H w p)
+        → (Tight 2 g.cap h k.used (path_in_hand H w t.path) → Tight 1 g.cap h' used' (path_in_hand H w p)) → keeps H.margin gap won lost ≡ true → H.limits.full (path_in_hand H w p) ≡ (used' == g.cap)
     unfolding keeps
     kept_full z h' used' p won lost st f kn ti q =
-        S.full (in_hand_lem H w p) ∙
-        case S.meter (λ m. full_is z used' h' st (in_hand_lem H w p) kn g.cap f (ti m))
+        S.full (path_in_hand H w p) ∙
+        case S.meter (λ m. full_is z used' h' st (path_in_hand H w p) kn g.cap f (ti m))
         (λ m. never (sym (ap (λ (o : Option Float). keeps o gap won lost) (S.margin ∙ ap (λ b. margin_of (cond b (Within g.margin) Off)) m.1)) ∙ q))
 
     room_of : {z z' : Store} {used' frame : ℕ} {margin : Margin} {won lost : Stored} {over : ℤ} {starts r : ℕ} → KeepIs z z' used' g.cap frame margin gap won lost over starts (Joined r) → used' < g.cap
@@ -166,7 +168,7 @@ module _ (H : Here) (P : Pass) (t : Token) (arc : Arc) (w : Work) (g : Setting) 
     beside = step_on H P t arc w.fresh true
 
     module _ (e : gap ≡ total H.graph P t arc ⊖ held.cost) where
-      F : KeepFor H (in_hand_lem H w new.path) (suc w.fresh) held new h s k.used g.cap g.frame (margin_in g) gap y (new_token a x.link 0) a.word (starts_of x a)
+      F : KeepFor H (path_in_hand H w new.path) (suc w.fresh) held new h s k.used g.cap g.frame (margin_in g) gap y (new_token a x.link 0) a.word (starts_of x a)
       unfolding arriving step_on
       F =
           let quiet : (is_link beside && not beside.beside) ≡ false = and_false (is_link beside) in
@@ -174,7 +176,7 @@ module _ (H : Here) (P : Pass) (t : Token) (arc : Arc) (w : Work) (g : Setting) 
             stands = S.stands;
             fresh = let n = S.newest in omega arith;
             full_is = kept_full s h k.used new.path held new S.stands S.fits (known_quiet h k.used beside t.path (paths w.table ++ H.before) quiet S.known)
-                (λ m. tight_less 1 g.cap h k.used (in_hand_lem H w new.path) (tight_quiet h k.used beside t.path (paths w.table ++ H.before) quiet 2 g.cap m));
+                (λ m. tight_less 1 g.cap h k.used (path_in_hand H w new.path) (tight_quiet h k.used beside t.path (paths w.table ++ H.before) quiet 2 g.cap m));
             margin_is = S.margin;
             frame_is = sym S.frame;
             gap_is = sym e;
@@ -196,7 +198,7 @@ module _ (H : Here) (P : Pass) (t : Token) (arc : Arc) (w : Work) (g : Setting) 
       abbrev on_it : WonBy H P t arc w g x a S.arrival S.phone S.frame s.records rs₁ s.labels ls₁ s.gaps k.used h S.stands S.hand S.newest S.fits exact (On l u)
       on_it = on_by rs₁ ls₁ (On l u) p
 
-      G : KeepFor H (in_hand_lem H w won.path) (suc w.fresh) won held on_it.on.h' (store rs₁ ls₁ s.gaps) u g.cap g.frame (margin_in g) gap (new_token a l y.seq) y (pos 0) 0
+      G : KeepFor H (path_in_hand H w won.path) (suc w.fresh) won held on_it.on.h' (store rs₁ ls₁ s.gaps) u g.cap g.frame (margin_in g) gap (new_token a l y.seq) y (pos 0) 0
       unfolding arriving
       G =
           let o = on_it in
@@ -223,8 +225,8 @@ module _ (H : Here) (P : Pass) (t : Token) (arc : Arc) (w : Work) (g : Setting) 
       unfolding settle loses arriving
       loses_is e r (lose_keeps q c) = go q (keep_comes (F e) c) c
         where
-          go : (q : Keeping) → KeepComes H (in_hand_lem H w new.path) (suc w.fresh) gap held new h s s' k.used q → KeepIs s s' k.used g.cap g.frame (margin_in g) gap y (new_token a x.link 0) a.word (starts_of x a) q
-              → Ends s' (check 12 (tame (total H.graph P t arc)) >>= λ u. keep H (in_hand_lem H w new.path) (suc w.fresh) gap held new >>= λ j. ok (joins_or_stays j)) (lost_with y k.used k.seq q)
+          go : (q : Keeping) → KeepComes H (path_in_hand H w new.path) (suc w.fresh) gap held new h s s' k.used q → KeepIs s s' k.used g.cap g.frame (margin_in g) gap y (new_token a x.link 0) a.word (starts_of x a) q
+              → Ends s' (check 12 (tame (total H.graph P t arc)) >>= λ u. keep H (path_in_hand H w new.path) (suc w.fresh) gap held new >>= λ j. ok (joins_or_stays j)) (lost_with y k.used k.seq q)
           go Dropped o c = rw (small, o.0) (ends_stays o.1)
           go Full o c = rw (small, o.0) (ends_refused 13 (λ z. omega arith) (survives_same h k.used g.cap s s' S.fits S.stands o.1))
           go (Joined r) o c = rw (small, o.0) (ends_joins (joined_on h k.used s' y held new r (grown_self h k.used) (room_of c) there (λ b. beside_frame, S.hand.own) S.hand.frames o.1 o.2) seq_is)
@@ -245,8 +247,8 @@ module _ (H : Here) (P : Pass) (t : Token) (arc : Arc) (w : Work) (g : Setting) 
           stands_as : (z : Store) → s' ≡ z → Stands z u o.on.h' → Stands s' u o.on.h'
           stands_as z d = subst (λ (v : Store). Stands v u o.on.h') (sym d)
 
-          go : (q : Keeping) → KeepComes H (in_hand_lem H w won.path) (suc w.fresh) gap won held o.on.h' (store rs₁ ls₁ s.gaps) s' u q → KeepIs (store rs₁ ls₁ s.gaps) s' u g.cap g.frame (margin_in g) gap (new_token a l y.seq) y (pos 0) 0 q
-              → Ends s' (check 12 (tame (total H.graph P t arc)) >>= λ u. check_winner H w P t arc >>= λ u. keep H (in_hand_lem H w won.path) (suc w.fresh) gap won held >>= λ j. ok (token_wins (or_else won j) w.seq)) (won_with (new_token a l y.seq) u k.seq q)
+          go : (q : Keeping) → KeepComes H (path_in_hand H w won.path) (suc w.fresh) gap won held o.on.h' (store rs₁ ls₁ s.gaps) s' u q → KeepIs (store rs₁ ls₁ s.gaps) s' u g.cap g.frame (margin_in g) gap (new_token a l y.seq) y (pos 0) 0 q
+              → Ends s' (check 12 (tame (total H.graph P t arc)) >>= λ u. check_winner H w P t arc >>= λ u. keep H (path_in_hand H w won.path) (suc w.fresh) gap won held >>= λ j. ok (token_wins (or_else won j) w.seq)) (won_with (new_token a l y.seq) u k.seq q)
           go Dropped d c =
               rw (small, o.checked, d.0, seq_is)
               (ends_wins (record { h' = o.on.h'; grown = o.on.grown; stands = stands_as (store rs₁ ls₁ s.gaps) d.1 o.on.stands; token = as_is; newest = let n = o.on.newest in omega arith; fits = o.few }))

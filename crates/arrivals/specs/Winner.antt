@@ -6,10 +6,10 @@ use mathlib.Core.List.Memᴰ.{tail as there}
 use Rattle.real32.specs.Small.{tame}
 use Rattle.model.specs.Basics.{◌⊕◌, ok, refused, ◌>>=◌, check}
 use Rattle.model.specs.Graph.{Arc}
-use Rattle.model.specs.Path.{Step, Path, arc_on_lem, Token, paths, is_link, word}
-use Rattle.model.specs.Arrive.{Pass, Here, Work, step_on, in_hand_lem, check_winner}
+use Rattle.model.specs.Path.{Step, Path, arc_onto, Token, paths, is_link, word}
+use Rattle.model.specs.Arrive.{Pass, Here, Work, step_on, path_in_hand, check_winner}
 use Rattle.tokens.specs.declared.Token.{Token as Stored}
-use Rattle.records.specs.History.{History, link_on_lem, tag, plain, history_link, history_quiet}
+use Rattle.records.specs.History.{History, link_onto, tag, plain, history_link, history_quiet}
 use Rattle.records.specs.Layout.{Store, store}
 use Rattle.records.specs.Puts.{LinkPut}
 use Rattle.records.specs.Stands.{Stands, put, put_same}
@@ -33,10 +33,10 @@ pub record OnPath (h : ℕ → History) (used : ℕ) (s' : Store) (used' l : ℕ
 
 module _ (H : Here) (P : Pass) (t : Token) (arc : Arc) (w : Work) (g : Setting) (x : Stored) (a : Arrival) (i : ArrivalIs H P t arc a) (phone : pos x.phone ≡ t.phone) (frame : g.frame ≡ H.frame) where
   abbrev new : Path
-  new = arc_on_lem (step_on H P t arc w.fresh false) t.path
+  new = arc_onto (step_on H P t arc w.fresh false) t.path
 
   abbrev full : Bool
-  full = H.limits.full (in_hand_lem H w t.path)
+  full = H.limits.full (path_in_hand H w t.path)
 
   module _ (rs rs' : List ℕ) (ls ls' : List ℤ) (gs : List Float) (used : ℕ) (h : ℕ → History) (sound : Stands (store rs ls gs) used h) (hand : Is h used x.link t.path) (newest : tag (h used) ≤ w.fresh) (fits : used ≤ g.cap)
       (exact : links x a ≡ true → full ≡ (used == g.cap)) where
@@ -45,8 +45,8 @@ module _ (H : Here) (P : Pass) (t : Token) (arc : Arc) (w : Work) (g : Setting) 
       pub checked : check_winner H w P t arc ≡ ok tt
       pub few : u ≤ g.cap
       pub on : OnPath h used (store rs' ls' gs) u l new (suc w.fresh)
-      pub known : Known h used (in_hand_lem H w t.path) → Known on.h' u (in_hand_lem H w new)
-      pub tight : (k : ℕ) → Tight (suc k) g.cap h used (in_hand_lem H w t.path) → Tight k g.cap on.h' u (in_hand_lem H w new)
+      pub known : Known h used (path_in_hand H w t.path) → Known on.h' u (path_in_hand H w new)
+      pub tight : (k : ℕ) → Tight (suc k) g.cap h used (path_in_hand H w t.path) → Tight k g.cap on.h' u (path_in_hand H w new)
 
     abbrev pub WonBy : PutOn → Type 0
     WonBy (Refused n) = (check_winner H w P t arc ≡ refused n) × (n ≢ 0) × (store rs' ls' gs ≡ store rs ls gs)
@@ -77,16 +77,16 @@ module _ (H : Here) (P : Pass) (t : Token) (arc : Arc) (w : Work) (g : Setting) 
           few = fits;
           on = record { h' = h; grown = grown_self h used; stands = rw (p, q) sound; is = record { low = hand.low; is = hand.is ∙ sym (history_quiet step t.path e); own = plain_on; frames = hand.frames }; newest = omega arith };
           known = known_quiet h used step t.path rest d;
-          tight = λ k m. tight_less k g.cap h used (in_hand_lem H w new) (tight_quiet h used step t.path rest d (suc k) g.cap m);
+          tight = λ k m. tight_less k g.cap h used (path_in_hand H w new) (tight_quiet h used step t.path rest d (suc k) g.cap m);
         }
 
     abbrev top : History
-    top = link_on_lem step.number step.frame (word step) step.starts (h x.link)
+    top = link_onto step.number step.frame (word step) step.starts (h x.link)
 
     -- as the code wrote it
-    top_is : link_on_lem w.fresh g.frame a.word (pos (starts_of x a)) (h x.link) ≡ top
+    top_is : link_onto w.fresh g.frame a.word (pos (starts_of x a)) (h x.link) ≡ top
     unfolding step_on
-    top_is j = link_on_lem w.fresh (frame j) (i.word j) (starts_is H P t arc a x w.fresh false i phone j) (h x.link)
+    top_is j = link_onto w.fresh (frame j) (i.word j) (starts_is H P t arc a x w.fresh false i phone j) (h x.link)
 
     link_on : check_winner H w P t arc ≡ ok tt → links x a ≡ true → used < g.cap → (r : ℕ) → LinkPut rs rs' ls ls' used x.link g.frame a.word (starts_of x a) r → Won r r
     unfolding tag step_on
@@ -100,7 +100,7 @@ module _ (H : Here) (P : Pass) (t : Token) (arc : Arc) (w : Work) (g : Setting) 
             h' = put h (suc used) top;
             grown = grown_put h used top;
             stands = rw (← top_is) (p.stands gs h w.fresh sound newest hand.low f);
-            is = record { low = omega arith; is = put_same h (suc used) top ∙ ap (link_on_lem step.number step.frame (word step) step.starts) hand.is ∙ sym (history_link step t.path e refl); own = plain_on; frames = hand.frames };
+            is = record { low = omega arith; is = put_same h (suc used) top ∙ ap (link_onto step.number step.frame (word step) step.starts) hand.is ∙ sym (history_link step t.path e refl); own = plain_on; frames = hand.frames };
             newest = rw (put_same h (suc used) top) (omega arith);
           };
           known = λ k. known_link h used step t.path rest e refl x.link hand.is (λ q m. k q (there m));

@@ -14,7 +14,7 @@ use Rattle.model.specs.Basics.{nonzero}
 use Rattle.model.specs.Path.{with_word}
 use Rattle.model.specs.Hash.{hash_word, hash_words, shift_past, hash_joined, newest_first}
 use Rattle.model.specs.Readings.{Below, on_top, by_way}
-use Rattle.records.specs.History.{History, no_history, link_on_lem, join_on, tag}
+use Rattle.records.specs.History.{History, no_history, link_onto, join_on, tag}
 use Rattle.records.specs.Layout.{Store, rec_at, is_link_rec}
 use Rattle.records.specs.Stands.{Stands, top_by}
 use Rattle.joins.specs.Worth.{words_of, above_of}
@@ -69,10 +69,10 @@ map_id f (x ∷ xs) e = ap₂ ◌∷◌ (e x (here refl)) (map_id f xs (λ y m. 
 join_low : (f : ℕ) (x : History) → Falls f x → join_tag x ≤ f
 unfolding join_tag
 join_low f no_history d = omega arith
-join_low f (link_on_lem n fr w st t) d = let z = d.0 in omega (arith, join_low n t d.1)
+join_low f (link_onto n fr w st t) d = let z = d.0 in omega (arith, join_low n t d.1)
 join_low f (join_on n fr b k t) d = d.0
 
-link_words : (n fr : ℕ) (w st : ℤ) (t : History) → Falls n t → read_words true (link_on_lem n fr w st t) ≡ with_word w (read_words true t)
+link_words : (n fr : ℕ) (w st : ℤ) (t : History) → Falls n t → read_words true (link_onto n fr w st t) ≡ with_word w (read_words true t)
 unfolding join_tag above_of under words_of
 link_words n fr w st t d = rw (le-ltb n (join_tag t) (join_low n t d))
 
@@ -93,7 +93,7 @@ module _ (margin : Float) (cap : ℕ) where
   pub below_down : (f : ℕ) (x : History) → Falls f x → below_of margin cap x ≡ map (with_words_on (read_words true x)) (below_of margin cap (to_join x))
   unfolding below_of to_join join_tag above_of words_of
   below_down f no_history d = sym (nothing_on no_history)
-  below_down f (link_on_lem n fr w s t) d =
+  below_down f (link_onto n fr w s t) d =
       ap (map (on_top w)) (below_down n t d.1) ∙ on_top_lem w (read_words true t) (to_join t) ∙ ap (λ (ws : List ℤ). map (with_words_on ws) (below_of margin cap (to_join t))) (sym (link_words n fr w s t d.1))
   below_down f (join_on n fr b k t) d = sym (nothing_on (join_on n fr b k t)) ∙ ap (λ (ws : List ℤ). map (with_words_on ws) (below_of margin cap (join_on n fr b k t))) (sym (join_words n fr b k t))
 

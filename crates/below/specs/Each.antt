@@ -12,13 +12,13 @@ use Rattle.lists.specs.Lists.{◌∈◌, keep_if}
 use Rattle.lists.specs.Members.{take_from, keep_from, keep_passes, sort_from, firsts_from, map_from}
 use Rattle.model.specs.Basics.{◌≺◌, ◌≼◌, 0f}
 use Rattle.model.specs.Readings.{Below, at_start, on_top, by_way, same_key, cheapest}
-use Rattle.records.specs.History.{Beside, History, no_history, link_on_lem, join_on}
+use Rattle.records.specs.History.{Beside, History, no_history, link_onto, join_on}
 use Rattle.below.specs.Lists.{below_of}
 
 module _ (margin : Float) (cap : ℕ) (P : History → Below → Type 0) where
   pub record Downward : Type 0 where
     pub start : P no_history at_start
-    pub link : (n f : ℕ) (w s : ℤ) (t : History) (b : Below) → P t b → P (link_on_lem n f w s t) (on_top w b)
+    pub link : (n f : ℕ) (w s : ℤ) (t : History) (b : Below) → P t b → P (link_onto n f w s t) (on_top w b)
     pub own : (n f : ℕ) (x : Beside) (k t : History) (b : Below) → (margin ≺ (by_way 0f 0f [] b).cost) ≡ false → P t b → P (join_on n f x k t) (by_way 0f 0f [] b)
     pub kept : (n f : ℕ) (x : Beside) (k t : History) (b : Below) → (x.cost ≼ margin) ≡ true → (margin ≺ (by_way x.cost x.graph (n ∷ []) (on_top x.word b)).cost) ≡ false → P k b
         → P (join_on n f x k t) (by_way x.cost x.graph (n ∷ []) (on_top x.word b))
@@ -28,7 +28,7 @@ module _ (margin : Float) (cap : ℕ) (P : History → Below → Type 0) where
   unfolding below_of cheapest
   below_each d no_history b (here e) = subst (P no_history) (sym e) d.start
   below_each d no_history b (there m) = elim m [ ]
-  below_each d (link_on_lem n f w s t) b m = let (o, i, e) = map_from (on_top w) (below_of margin cap t) b m in subst (P (link_on_lem n f w s t)) (sym e) (d.link n f w s t o (below_each d t o i))
+  below_each d (link_onto n f w s t) b m = let (o, i, e) = map_from (on_top w) (below_of margin cap t) b m in subst (P (link_onto n f w s t)) (sym e) (d.link n f w s t o (below_each d t o i))
   below_each d (join_on n f x k t) b m = case (Memᴰ.append_cases owns (keep_from fits (owns ++ kepts) b in_kept)) (λ i. by_own (below_each d t) i) (λ i. by_kept (x.cost ≼ margin) refl (below_each d k) i)
     where
       owns : List Below

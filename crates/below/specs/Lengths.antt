@@ -10,7 +10,7 @@ use Rattle.model.specs.Basics.{nonzero}
 use Rattle.model.specs.Path.{with_word}
 use Rattle.model.specs.Hash.{hash_word}
 use Rattle.model.specs.Readings.{Below, on_top, by_way}
-use Rattle.records.specs.History.{History, no_history, link_on_lem, join_on, tag}
+use Rattle.records.specs.History.{History, no_history, link_onto, join_on, tag}
 use Rattle.records.specs.Layout.{Store, rec_at, is_link_rec}
 use Rattle.records.specs.Stands.{Stands, top_by, tag_upto, stands_less}
 use Rattle.joins.specs.Worth.{words_of, above_of}
@@ -22,7 +22,7 @@ use Rattle.below.specs.Each.{below_each}
 -- at most n records are on any one way down
 abbrev pub Deep : (n : ℕ) → History → Type 0
 Deep n no_history = Unit {0}
-Deep n (link_on_lem m f w s t) = (i : ℕ) × (i < n) × Deep i t
+Deep n (link_onto m f w s t) = (i : ℕ) × (i < n) × Deep i t
 Deep n (join_on m f b k t) = ((i : ℕ) × (i < n) × Deep i k) × ((i : ℕ) × (i < n) × Deep i t)
 
 on_top_len : (w : ℤ) (b : Below) → (on_top w b).len ≤ suc b.len

@@ -18,7 +18,7 @@ use Rattle.real32.specs.Order.{lt_not_le}
 use Rattle.real32.specs.Small.{huge}
 use Rattle.model.specs.Basics.{◌≺◌, ◌≼◌, ◌⊕◌, 0f, ∞}
 use Rattle.model.specs.Readings.{Below, on_top, by_way, same_key, cheapest}
-use Rattle.records.specs.History.{History, no_history, link_on_lem, join_on}
+use Rattle.records.specs.History.{History, no_history, link_onto, join_on}
 use Rattle.below.specs.Lists.{below_of, Dearer}
 use Rattle.below.specs.Lengths.{on_top_route}
 use Rattle.below.specs.Rising.{on_top_cost, low_on_top, cost_low, below_lows, up_by, below_up}
@@ -76,7 +76,7 @@ module _ (margin : Float) (margin-small : T (margin ≺ huge)) (margin-up : T (0
   pub below_own_first : (cap : ℕ) → 0 < cap → (x : History) → Dearer x → OwnFirst (below_of margin cap x)
   unfolding below_of by_way
   below_own_first cap l no_history d = record { own = _; rest = []; is = refl; no_route = refl; free = refl; routed = λ b m. elim m [ ] }
-  below_own_first cap l (link_on_lem n f w s t) d =
+  below_own_first cap l (link_onto n f w s t) d =
       let o = below_own_first cap l t d in
       record {
         own = on_top w o.own;

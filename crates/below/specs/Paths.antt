@@ -11,7 +11,7 @@ use Rattle.std.proofs.Math.ListN.{length}
 use Rattle.lists.specs.Tests.{case, either, or_neither}
 use Rattle.lists.specs.Lists.{◌∈◌, keep_if}
 use Rattle.model.specs.Basics.{◌≺◌, ◌≼◌, 0f, nonzero}
-use Rattle.model.specs.Path.{Step, Merge, Path, empty_path, arc_on_lem, branch_on, is_link, word}
+use Rattle.model.specs.Path.{Step, Merge, Path, empty_path, arc_onto, branch_on, is_link, word}
 use Rattle.model.specs.Readings.{Below, at_start, on_top, by_way, cheapest, below, visited, visited_all}
 use Rattle.model.specs.Reads.{Ranked}
 use Rattle.records.specs.History.{History, history_of, plain, beside_word, history_link, history_quiet, history_beside}
@@ -35,19 +35,19 @@ module _ (margin : Float) (cap : ℕ) where
   abbrev Beside : Path → Type 0
   Beside p = below margin cap p ≡ map (on_top (beside_word p)) (below_of margin cap (history_of p))
 
-  plain_arc : (s : Step) (p : Path) → s.beside ≡ false → Plain p → Plain (arc_on_lem s p)
+  plain_arc : (s : Step) (p : Path) → s.beside ≡ false → Plain p → Plain (arc_onto s p)
   unfolding below below_of
   plain_arc s p b e =
       case (either (is_link s))
       (λ l. ap (map (on_top (word s))) e ∙ ap (below_of margin cap) (sym (history_link s p l b)))
       (λ l. none_on_top (word s) (or_neither (nonzero (word s)) (nonzero s.starts) l).0 (below margin cap p) ∙ e ∙ ap (below_of margin cap) (sym (history_quiet s p l)))
 
-  beside_arc : (s : Step) (p : Path) → Plain p → Beside (arc_on_lem s p)
+  beside_arc : (s : Step) (p : Path) → Plain p → Beside (arc_onto s p)
   unfolding below beside_word
   beside_arc s p e =
       case (either s.beside)
       (λ b. ap (map (on_top (word s))) e ∙ ap₂ (λ (c : Bool) (x : History). map (on_top (cond c (word s) (pos 0))) (below_of margin cap x)) (sym b) (sym (history_beside s p b)))
-      (λ b. plain_arc s p b e ∙ sym (none_on_top (pos 0) refl (below_of margin cap (history_of (arc_on_lem s p)))) ∙ ap (λ (c : Bool). map (on_top (cond c (word s) (pos 0))) (below_of margin cap (history_of (arc_on_lem s p)))) (sym b))
+      (λ b. plain_arc s p b e ∙ sym (none_on_top (pos 0) refl (below_of margin cap (history_of (arc_onto s p)))) ∙ ap (λ (c : Bool). map (on_top (cond c (word s) (pos 0))) (below_of margin cap (history_of (arc_onto s p)))) (sym b))
 
   plain_branch : (m : Merge) (k p : Path) → Beside k → Plain p → Plain (branch_on m k p)
   unfolding below below_of history_of
@@ -57,7 +57,7 @@ module _ (margin : Float) (cap : ℕ) where
   both : (p : Path) → timed p → (plain p ≡ true → Plain p) × ((f : ℕ) → beside_in f p → Beside p)
   unfolding below below_of history_of plain beside_word
   both empty_path t = (λ e. refl, λ f b. sym (none_on_top (pos 0) refl (at_start ∷ [])))
-  both (arc_on_lem s p) t =
+  both (arc_onto s p) t =
       let r = both p t in
       (λ e. plain_arc s p (own_arc s p e) (r.0 (plain_rest s p e)), λ f b. beside_arc s p (r.0 b.1))
   both (branch_on m k p) t =
@@ -72,7 +72,7 @@ module _ (margin : Float) (cap : ℕ) where
   visited_beside : (f : ℕ) (p : Path) → beside_in f p → timed p → visited margin cap p ≡ visited_of margin cap (history_of p)
   unfolding visited visited_of history_of plain
   visited_beside f empty_path b t = refl
-  visited_beside f (arc_on_lem s p) b t =
+  visited_beside f (arc_onto s p) b t =
       let r = visited_beside f p (none_beside f p b.1) t in
       case (either (is_link s && not s.beside)) (λ l. rw l r) (λ l. rw l r)
   visited_beside f (branch_on m k p) b t =
@@ -94,5 +94,5 @@ module _ (margin : Float) (cap : ℕ) where
 pub dearer_of : (p : Path) → Differences p → Dearer (history_of p)
 unfolding history_of
 dearer_of empty_path d = tt
-dearer_of (arc_on_lem s p) d = let r = dearer_of p d in case (either (is_link s && not s.beside)) (λ l. rw l r) (λ l. rw l r)
+dearer_of (arc_onto s p) d = let r = dearer_of p d in case (either (is_link s && not s.beside)) (λ l. rw l r) (λ l. rw l r)
 dearer_of (branch_on m k p) d = (d.0.cost_up, dearer_of k d.1, dearer_of p d.2)

@@ -25,7 +25,7 @@ use Rattle.real32.specs.Small.{huge}
 use Rattle.model.specs.Basics.{◌≺◌, ◌≼◌, ◌⊕◌, 0f, ∞, nonzero}
 use Rattle.model.specs.Hash.{hash_word}
 use Rattle.model.specs.Readings.{Below, at_start, on_top, by_way, same_key, cheapest}
-use Rattle.records.specs.History.{Beside, History, no_history, link_on_lem, join_on}
+use Rattle.records.specs.History.{Beside, History, no_history, link_onto, join_on}
 use Rattle.below.specs.Lists.{below_of, Dearer}
 use Rattle.below.specs.Each.{Downward, below_each}
 
@@ -192,7 +192,7 @@ module _ (margin : Float) (margin-small : T (margin ≺ huge)) where
   pub below_ascending : (cap : ℕ) (x : History) → Ascending (below_of margin cap x)
   unfolding below_of
   below_ascending cap no_history = (λ c m. elim m [ ], tt)
-  below_ascending cap (link_on_lem n f w s t) = on_top_ascending w (below_of margin cap t) (below_ascending cap t)
+  below_ascending cap (link_onto n f w s t) = on_top_ascending w (below_of margin cap t) (below_ascending cap t)
   below_ascending cap (join_on n f x k t) =
       cheapest_ascending cap (keep_if fit (owns ++ taken (x.cost ≼ margin)))
       (λ b m. case (Memᴰ.append_cases owns (keep_from fit (owns ++ taken (x.cost ≼ margin)) b m)) (own_real b) (kept_real (x.cost ≼ margin) refl b))
@@ -274,7 +274,7 @@ module _ (margin : Float) (margin-small : T (margin ≺ huge)) where
     pub below_some : (cap : ℕ) → 0 < cap → (x : History) → 0 < length (below_of margin cap x)
     unfolding below_of cheapest by_way
     below_some cap l no_history = omega arith
-    below_some cap l (link_on_lem n f w s t) = rw (length-map (below_of margin cap t) (on_top w)) (below_some cap l t)
+    below_some cap l (link_onto n f w s t) = rw (length-map (below_of margin cap t) (on_top w)) (below_some cap l t)
     below_some cap l (join_on n f x k t) = taken_some (below_some cap l t)
       where
         owns : List Below
@@ -307,5 +307,5 @@ join_few margin cap n f x k t = take_few cap _
 pub below_few : (margin : Float) (cap : ℕ) → 0 < cap → (x : History) → length (below_of margin cap x) ≤ cap
 unfolding below_of
 below_few margin cap l no_history = l
-below_few margin cap l (link_on_lem n f w s t) = rw (length-map (below_of margin cap t) (on_top w)) (below_few margin cap l t)
+below_few margin cap l (link_onto n f w s t) = rw (length-map (below_of margin cap t) (on_top w)) (below_few margin cap l t)
 below_few margin cap l (join_on n f x k t) = join_few margin cap n f x k t

@@ -13,7 +13,7 @@ use Rattle.std.proofs.Math.ListN.{length}
 use Rattle.lists.specs.Tests.{case, lt_or_le}
 use Rattle.lists.specs.Lists.{◌∈◌}
 use Rattle.model.specs.Basics.{◌≼◌}
-use Rattle.records.specs.History.{History, no_history, link_on_lem, join_on, tag}
+use Rattle.records.specs.History.{History, no_history, link_onto, join_on, tag}
 use Rattle.records.specs.Layout.{store, Rec, rec_at, is_link_rec, prev_at, kept_at, cost_at}
 use Rattle.records.specs.Stands.{Stands, top_by}
 use Rattle.histories.specs.Reading.{join_tag, is_join_at}
@@ -39,13 +39,13 @@ pub record OfRecord (rs : List ℕ) (ls : List ℤ) (n : ℕ) (h : ℕ → Histo
 -- a link is no newest join
 abbrev is_link : History → Bool
 is_link no_history = false
-is_link (link_on_lem n f w s t) = true
+is_link (link_onto n f w s t) = true
 is_link (join_on n f b k t) = false
 
 no_link : (x : History) → is_link (to_join x) ≡ false
 unfolding to_join
 no_link no_history = refl
-no_link (link_on_lem n f w s t) = no_link t
+no_link (link_onto n f w s t) = no_link t
 no_link (join_on n f b k t) = refl
 
 link_top : (b : Bool) (r : Rec) (m : ℕ) (t k : History) → is_link (top_by b r m t k) ≡ b
@@ -55,7 +55,7 @@ link_top false r m t k = refl
 visited_down : (margin : Float) (cap : ℕ) (x : History) → visited_of margin cap x ≡ visited_of margin cap (to_join x)
 unfolding visited_of to_join
 visited_down margin cap no_history = refl
-visited_down margin cap (link_on_lem n f w s t) = visited_down margin cap t
+visited_down margin cap (link_onto n f w s t) = visited_down margin cap t
 visited_down margin cap (join_on n f b k t) = refl
 
 module _ {rs : List ℕ} {ls : List ℤ} {gs : List Float} {n : ℕ} {h : ℕ → History} (ok : Stands (store rs ls gs) n h) (margin : Float) (cap : ℕ) where

@@ -33,30 +33,30 @@ abbrev pub kept_places_of : Lengths → ℕ
 kept_places_of l = kept_places l.kept_hashes l.kept_links l.kept_sums
 
 -- of each slice kept per state
-abbrev pub per_state_lem : Lengths → List ℕ
-per_state_lem l = l.tokens / 8 ∷ l.sums / 4 ∷ l.eps ∷ l.scratch ∷ l.keys ∷ l.places ∷ l.own ∷ l.heads ∷ l.list ∷ []
+abbrev pub for_states : Lengths → List ℕ
+for_states l = l.tokens / 8 ∷ l.sums / 4 ∷ l.eps ∷ l.scratch ∷ l.keys ∷ l.places ∷ l.own ∷ l.heads ∷ l.list ∷ []
 
 -- of each slice kept per record
-abbrev pub per_record_lem : Lengths → List ℕ
-per_record_lem l = l.lists / 2 ∷ l.route ∷ l.history_keys / 2 ∷ l.history_skips / 2 ∷ []
+abbrev pub for_records : Lengths → List ℕ
+for_records l = l.lists / 2 ∷ l.route ∷ l.history_keys / 2 ∷ l.history_skips / 2 ∷ []
 
 -- of each slice kept per kept reading; `list` has a place for every state in front
-abbrev pub per_kept_lem : (states : ℕ) → Lengths → List ℕ
-per_kept_lem n l = l.keys ∷ l.order ∷ (l.list - n) ∷ []
+abbrev pub for_kept : (states : ℕ) → Lengths → List ℕ
+for_kept n l = l.keys ∷ l.order ∷ (l.list - n) ∷ []
 
 -- what a fitting is lent for a graph of n states
 abbrev pub places_of : (states : ℕ) → Lengths → Places
-places_of n l = record { per_state_lem = per_state_lem l; records = record_places l; per_record_lem = per_record_lem l; kept = kept_places_of l; per_kept_lem = per_kept_lem n l }
+places_of n l = record { for_states = for_states l; records = record_places l; for_records = for_records l; kept = kept_places_of l; for_kept = for_kept n l }
 
 abbrev pub config_wrong : Config → Bool
 config_wrong c = not (fair c.beam) || not (fair c.beam_delta) || leb c.max_active c.min_active
 
 -- too few places per record or per kept reading
 abbrev pub scratch_wrong : (states : ℕ) → Lengths → Bool
-scratch_wrong n l = not (at_least (record_places l) (per_record_lem l)) || not (at_least (kept_places_of l) (per_kept_lem n l))
+scratch_wrong n l = not (at_least (record_places l) (for_records l)) || not (at_least (kept_places_of l) (for_kept n l))
 
 abbrev pub stores_wrong : (states : ℕ) → Lengths → Bool
-stores_wrong n l = not (at_least n (per_state_lem l)) || (ltb 1_048_576 (record_places l) || scratch_wrong n l)
+stores_wrong n l = not (at_least n (for_states l)) || (ltb 1_048_576 (record_places l) || scratch_wrong n l)
 
 -- ---- the least of a list
 
@@ -123,7 +123,7 @@ module _ (g : Graph) (c : Config) (l : Lengths) where
   unfolding check_fit
   check_is =
       ap (refuse 6)
-      (or_five (config_wrong c) (not (at_least (states g) (per_state_lem l))) (ltb 1_048_576 (record_places l)) (not (at_least (record_places l) (per_record_lem l))) (not (at_least (kept_places_of l) (per_kept_lem (states g) l))))
+      (or_five (config_wrong c) (not (at_least (states g) (for_states l))) (ltb 1_048_576 (record_places l)) (not (at_least (record_places l) (for_records l))) (not (at_least (kept_places_of l) (for_kept (states g) l))))
 
   pub config_refused : config_wrong c ≡ true → check_fit g (config_of c) (places_of (states g) l) ≡ some 6
   config_refused e = check_is ∙ ap (λ (b : Bool). refuse 6 (b || stores_wrong (states g) l)) e
@@ -140,24 +140,24 @@ Wide n ks = (k : ℕ) → k ∈ ks → n ≤ k
 
 -- the places that stores have which are not refused
 pub record Roomy (n : ℕ) (l : Lengths) : Type 0 where
-  pub per_state : Wide n (per_state_lem l)
+  pub per_state : Wide n (for_states l)
   pub records_few : record_places l ≤ 1_048_576
-  pub per_record : Wide (record_places l) (per_record_lem l)
-  pub per_kept : Wide (kept_places_of l) (per_kept_lem n l)
+  pub per_record : Wide (record_places l) (for_records l)
+  pub per_kept : Wide (kept_places_of l) (for_kept n l)
 
 wide : (n : ℕ) (ks : List ℕ) → not (at_least n ks) ≡ false → Wide n ks
 wide n ks e k i = leb-true n k (all_each (λ j. leb n j) ks (not-false (at_least n ks) e) k i)
 
 pub roomy : (n : ℕ) (l : Lengths) → stores_wrong n l ≡ false → Roomy n l
 roomy n l e =
-    let a = or_neither (not (at_least n (per_state_lem l))) _ e in
+    let a = or_neither (not (at_least n (for_states l))) _ e in
     let b = or_neither (ltb 1_048_576 (record_places l)) _ a.1 in
-    let d = or_neither (not (at_least (record_places l) (per_record_lem l))) (not (at_least (kept_places_of l) (per_kept_lem n l))) b.1 in
+    let d = or_neither (not (at_least (record_places l) (for_records l))) (not (at_least (kept_places_of l) (for_kept n l))) b.1 in
     record {
-      per_state = wide n (per_state_lem l) a.0;
+      per_state = wide n (for_states l) a.0;
       records_few = ltb-false 1_048_576 (record_places l) b.0;
-      per_record = wide (record_places l) (per_record_lem l) d.0;
-      per_kept = wide (kept_places_of l) (per_kept_lem n l) d.1;
+      per_record = wide (record_places l) (for_records l) d.0;
+      per_kept = wide (kept_places_of l) (for_kept n l) d.1;
     }
 
 passed : (b : Bool) → refuse 6 b ≡ none → b ≡ false

@@ -15,8 +15,8 @@ use Rattle.lists.specs.Lists.{◌∈◌, firsts}
 use Rattle.lists.specs.Members.{firsts_from}
 use Rattle.lists.specs.Firsts.{Apart, firsts_are}
 use Rattle.lists.specs.Count.{Nodup, fewer}
-use Rattle.model.specs.Path.{Step, Path, arc_on_lem, is_link, word, records_of, records, live, full_at}
-use Rattle.records.specs.History.{History, link_on_lem, tag, history_of, history_link}
+use Rattle.model.specs.Path.{Step, Path, arc_onto, is_link, word, records_of, records, live, full_at}
+use Rattle.records.specs.History.{History, link_onto, tag, history_of, history_link}
 use Rattle.records.specs.Layout.{Store, rec_at, is_link_rec}
 use Rattle.records.specs.Stands.{Stands, put, put_same, put_other, tag_top}
 use Rattle.compaction.specs.Marks.{Reach, from_root, through_prev, through_kept}
@@ -180,37 +180,37 @@ module _ (h : ℕ → History) (n : ℕ) (v : History) where
 
 -- The path in hand gets an arc.
 module _ (h : ℕ → History) (n : ℕ) (s : Step) (p : Path) (rest : List Path) where
-  records_more : (b : Bool) → (is_link s && not s.beside) ≡ b → (z : ℕ) → z ∈ records_of (p ∷ rest) → z ∈ records_of (arc_on_lem s p ∷ rest)
+  records_more : (b : Bool) → (is_link s && not s.beside) ≡ b → (z : ℕ) → z ∈ records_of (p ∷ rest) → z ∈ records_of (arc_onto s p ∷ rest)
   unfolding records
   records_more true e z m = rw e (there m)
   records_more false e z m = rw e m
 
   -- one with a record
   module _ (link : is_link s ≡ true) (plain : s.beside ≡ false) where
-    records_own : s.number ∈ records_of (arc_on_lem s p ∷ rest)
+    records_own : s.number ∈ records_of (arc_onto s p ∷ rest)
     unfolding records
     records_own = rw (link, plain) (here refl)
 
     abbrev newest : (prev : ℕ) → History
-    newest prev = link_on_lem s.number s.frame (word s) s.starts (h prev)
+    newest prev = link_onto s.number s.frame (word s) s.starts (h prev)
 
-    pub known_link : (prev : ℕ) → h prev ≡ history_of p → Known h n rest → Known (put h (suc n) (newest prev)) (suc n) (arc_on_lem s p ∷ rest)
-    known_link prev e known q (here d) = (suc n, omega arith, put_same h (suc n) (newest prev) ∙ ap (link_on_lem s.number s.frame (word s) s.starts) e ∙ sym (history_link s p link plain) ∙ ap history_of (sym d))
+    pub known_link : (prev : ℕ) → h prev ≡ history_of p → Known h n rest → Known (put h (suc n) (newest prev)) (suc n) (arc_onto s p ∷ rest)
+    known_link prev e known q (here d) = (suc n, omega arith, put_same h (suc n) (newest prev) ∙ ap (link_onto s.number s.frame (word s) s.starts) e ∙ sym (history_link s p link plain) ∙ ap history_of (sym d))
     known_link prev e known q (there i) = known_put h n (newest prev) rest known q i
 
-    pub tight_link : (k cap prev : ℕ) → Tight (suc k) cap h n (p ∷ rest) → Tight k cap (put h (suc n) (newest prev)) (suc n) (arc_on_lem s p ∷ rest)
+    pub tight_link : (k cap prev : ℕ) → Tight (suc k) cap h n (p ∷ rest) → Tight k cap (put h (suc n) (newest prev)) (suc n) (arc_onto s p ∷ rest)
     unfolding tag
     tight_link k cap prev t =
-        case t (λ a. inl (omega arith)) (λ all. inr (live_put h n (newest prev) s.number refl (p ∷ rest) (arc_on_lem s p ∷ rest) (records_more (is_link s && not s.beside) refl) records_own all))
+        case t (λ a. inl (omega arith)) (λ all. inr (live_put h n (newest prev) s.number refl (p ∷ rest) (arc_onto s p ∷ rest) (records_more (is_link s && not s.beside) refl) records_own all))
 
   -- one with none
   module _ (quiet : (is_link s && not s.beside) ≡ false) where
-    pub known_quiet : Known h n (p ∷ rest) → Known h n (arc_on_lem s p ∷ rest)
+    pub known_quiet : Known h n (p ∷ rest) → Known h n (arc_onto s p ∷ rest)
     unfolding history_of
     known_quiet known q (here d) = let (r, l, e) = known p (here refl) in (r, l, e ∙ sym (ap history_of d ∙ rw quiet))
     known_quiet known q (there i) = known q (there i)
 
-    pub tight_quiet : (k cap : ℕ) → Tight k cap h n (p ∷ rest) → Tight k cap h n (arc_on_lem s p ∷ rest)
+    pub tight_quiet : (k cap : ℕ) → Tight k cap h n (p ∷ rest) → Tight k cap h n (arc_onto s p ∷ rest)
     tight_quiet k cap t = case t inl (λ all. inr (λ r a l. records_more false quiet (own_number h r) (all r a l)))
 
 pub tight_less : (k cap : ℕ) (h : ℕ → History) (n : ℕ) (ps : List Path) → Tight (suc k) cap h n ps → Tight k cap h n ps

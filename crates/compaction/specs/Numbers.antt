@@ -6,19 +6,19 @@ use mathlib.Core.List.Memᴰ.{head as here}
 use mathlib.Core.List.Memᴰ.{tail as there}
 use Rattle.lists.specs.Tests.{case}
 use Rattle.lists.specs.Lists.{◌∈◌}
-use Rattle.model.specs.Path.{Path, empty_path, arc_on_lem, branch_on, is_link, word, records, records_of}
-use Rattle.records.specs.History.{History, no_history, link_on_lem, join_on, history_of}
+use Rattle.model.specs.Path.{Path, empty_path, arc_onto, branch_on, is_link, word, records, records_of}
+use Rattle.records.specs.History.{History, no_history, link_onto, join_on, history_of}
 use Rattle.records.specs.Layout.{Rec}
 use Rattle.records.specs.Stands.{top_by}
 
 unfoldable pub numbers : History → List ℕ
 numbers no_history = []
-numbers (link_on_lem n f w st t) = n ∷ numbers t
+numbers (link_onto n f w st t) = n ∷ numbers t
 numbers (join_on n f b k t) = n ∷ (numbers k ++ numbers t)
 
 -- ---- a path's
 
-records_arc : (b : Bool) (n f : ℕ) (w st : ℤ) (xs : List ℕ) (t : History) → xs ≡ numbers t → cond b (n ∷ xs) xs ≡ numbers (cond b (link_on_lem n f w st t) t)
+records_arc : (b : Bool) (n f : ℕ) (w st : ℤ) (xs : List ℕ) (t : History) → xs ≡ numbers t → cond b (n ∷ xs) xs ≡ numbers (cond b (link_onto n f w st t) t)
 unfolding numbers
 records_arc true n f w st xs t e = ap (λ (l : List ℕ). n ∷ l) e
 records_arc false n f w st xs t e = e
@@ -26,7 +26,7 @@ records_arc false n f w st xs t e = e
 pub records_are : (p : Path) → records p ≡ numbers (history_of p)
 unfolding records numbers history_of
 records_are empty_path = refl
-records_are (arc_on_lem s p) = records_arc (is_link s && not s.beside) s.number s.frame (word s) s.starts (records p) (history_of p) (records_are p)
+records_are (arc_onto s p) = records_arc (is_link s && not s.beside) s.number s.frame (word s) s.starts (records p) (history_of p) (records_are p)
 records_are (branch_on m k p) = ap₂ (λ (a b : List ℕ). m.number ∷ (a ++ b)) (records_are k) (records_are p)
 
 -- those of several paths

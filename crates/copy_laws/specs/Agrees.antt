@@ -11,7 +11,7 @@ use Rattle.model.specs.Basics.{◌≺◌, ◌≼◌, ◌⊕◌, over, Outcome, o
 use Rattle.model.specs.Graph.{Graph, Arc, no_state, has_eps, arcs_of}
 use Rattle.model.specs.Path.{Path, Token, Table, Limits, unlimited, is_link, memℕ}
 use Rattle.model.specs.Cutoff.{Config, best, get_cutoff}
-use Rattle.model.specs.Arrive.{Pass, emitting, nonemitting, takes, total, Here, Work, Meets, cut_off_lem, vacant, better, not_better, meets, step_on, arriving, joined, keeps, keep, in_hand_lem, check_winner, Change, arc_cut, token_stays, token_wins, token_joins, fills, beats, loses, settle, passed, put, push, push_winner, push_joined, finish, place_of, arrive, arrive_all}
+use Rattle.model.specs.Arrive.{Pass, emitting, nonemitting, takes, total, Here, Work, Meets, past_cutoff, vacant, better, not_better, meets, step_on, arriving, joined, keeps, keep, path_in_hand, check_winner, Change, arc_cut, token_stays, token_wins, token_joins, fills, beats, loses, settle, passed, put, push, push_winner, push_joined, finish, place_of, arrive, arrive_all}
 use Rattle.model.specs.Passes.{offset_of, look, empty_work, emit_from, emitting_pass, push_from, popped, expand, drain, fuel, nonemitting_pass, State, done, during, start, check_frame, frame}
 
 -- ---- two outcomes
@@ -64,7 +64,7 @@ module _ (h : Here) where
 
   winner_agrees : (w : Work) (p : Pass) (t : Token) (a : Arc) → Agree (check_winner h w p t a) (check_winner (free h) w p t a)
   unfolding check_winner step_on unlimited
-  winner_agrees w p t a = check_agrees (tame (t.graph ⊕ a.weight)) (is_link (step_on h p t a 0 false)) (h.limits.full (in_hand_lem h w t.path))
+  winner_agrees w p t a = check_agrees (tame (t.graph ⊕ a.weight)) (is_link (step_on h p t a 0 false)) (h.limits.full (path_in_hand h w t.path))
 
   push_agrees : (s : ℕ) (re : List ℕ) (w : Work) → Agree (push h s re w) (push (free h) s re w)
   unfolding push unlimited
@@ -87,16 +87,16 @@ module _ (h : Here) where
 
   settle_agrees : (p : Pass) (t : Token) (a : Arc) (w : Work) (m : Meets) → Agree (settle h p t a w m) (settle (free h) p t a w m)
   unfolding settle fills beats loses arriving step_on
-  settle_agrees p t a w cut_off_lem = refl
+  settle_agrees p t a w past_cutoff = refl
   settle_agrees p t a w vacant = agree_same (check 12 (tame (total h.graph p t a))) _ _ λ u. agree_then (check_winner h w p t a) (check_winner (free h) w p t a) _ _ (winner_agrees w p t a) λ x. refl
   settle_agrees p t a w (better gap held) =
       let new = arriving h p t a w.fresh held.seq false in
       agree_same (check 12 (tame (total h.graph p t a))) _ _ λ u. agree_then (check_winner h w p t a) (check_winner (free h) w p t a) _ _ (winner_agrees w p t a) λ x.
-      agree_then (keep h (in_hand_lem h w new.path) (suc w.fresh) gap new held) (keep (free h) (in_hand_lem h w new.path) (suc w.fresh) gap new held) _ _ (keep_agrees _ _ gap new held) λ j. refl
+      agree_then (keep h (path_in_hand h w new.path) (suc w.fresh) gap new held) (keep (free h) (path_in_hand h w new.path) (suc w.fresh) gap new held) _ _ (keep_agrees _ _ gap new held) λ j. refl
   settle_agrees p t a w (not_better gap held) =
       let new = arriving h p t a w.fresh 0 true in
       agree_same (check 12 (tame (total h.graph p t a))) _ _ λ u.
-      agree_then (keep h (in_hand_lem h w new.path) (suc w.fresh) gap held new) (keep (free h) (in_hand_lem h w new.path) (suc w.fresh) gap held new) _ _ (keep_agrees _ _ gap held new) λ j. refl
+      agree_then (keep h (path_in_hand h w new.path) (suc w.fresh) gap held new) (keep (free h) (path_in_hand h w new.path) (suc w.fresh) gap held new) _ _ (keep_agrees _ _ gap held new) λ j. refl
 
   arrive_agrees : (p : Pass) (t : Token) (a : Arc) (w : Work) → Agree (arrive h p t a w) (arrive (free h) p t a w)
   unfolding arrive

@@ -19,7 +19,7 @@ use Rattle.model.specs.Reads.{Ranked, use_finals, rank_one, ranked, Traced, trac
 use Rattle.model.specs.Readings.{readings}
 use Rattle.model.specs.Calls.{Reading, reading_of}
 use Rattle.model.specs.Checked.{GoodGraph}
-use Rattle.copy_laws.specs.Walks.{words_on_lem, sum_of}
+use Rattle.copy_laws.specs.Walks.{words_along, sum_of}
 use Rattle.copy_laws.specs.Routes.{along, trace_words}
 use Rattle.copy_laws.specs.Tables.{At}
 use Rattle.copy_laws.specs.Sums.{Floats32}
@@ -41,7 +41,7 @@ module _ (g : Graph) (good : GoodGraph g) (floats : Floats32 g) (pt : Point) (h 
 
   -- ---- along a route of an active token's path
 
-  one_path : (route : List ℕ) (s : ℕ) (t : Token) → At st.table s t → (finals ≡ true → is_final g s ≡ true) → (ws : List ℤ) → ws ≡ words_on_lem (along route t.path) → OnePath g pt finals ws
+  one_path : (route : List ℕ) (s : ℕ) (t : Token) → At st.table s t → (finals ≡ true → is_final g s ≡ true) → (ws : List ℤ) → ws ≡ words_along (along route t.path) → OnePath g pt finals ws
   one_path route s t a e ws q =
       let w = (h.standing.active.sound s t a).walks route in
       record { route = along route t.path; end = s; walk = w; frames = w.frames ∙ sym h.standing.frames; final = e; words = q }

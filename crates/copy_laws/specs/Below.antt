@@ -12,10 +12,10 @@ use Rattle.lists.specs.Lists.{◌∈◌, keep_if}
 use Rattle.lists.specs.Members.{take_from, keep_from, keep_passes, sort_from, firsts_from, map_from}
 use Rattle.model.specs.Basics.{◌≺◌, ◌≼◌, 0f, nonzero}
 use Rattle.model.specs.Graph.{Arc}
-use Rattle.model.specs.Path.{Step, Merge, Path, empty_path, arc_on_lem, branch_on, word, with_word, memℕ}
+use Rattle.model.specs.Path.{Step, Merge, Path, empty_path, arc_onto, branch_on, word, with_word, memℕ}
 use Rattle.model.specs.Hash.{hash_word, hash_words}
 use Rattle.model.specs.Readings.{Below, at_start, on_top, by_way, same_key, cheapest, below}
-use Rattle.copy_laws.specs.Walks.{words_on_lem, words_append}
+use Rattle.copy_laws.specs.Walks.{words_along, words_append}
 use Rattle.copy_laws.specs.Routes.{along}
 use Rattle.copy_laws.specs.Shapes.{Falling, falling_more}
 
@@ -24,7 +24,7 @@ use Rattle.copy_laws.specs.Shapes.{Falling, falling_more}
 module _ (margin : Float) (cap : ℕ) (P : Path → Below → Type 0) where
   pub record Downward : Type 0 where
     pub start : P empty_path at_start
-    pub arc : (x : Step) (p : Path) (b : Below) → P p b → P (arc_on_lem x p) (on_top (word x) b)
+    pub arc : (x : Step) (p : Path) (b : Below) → P p b → P (arc_onto x p) (on_top (word x) b)
     pub own : (m : Merge) (k p : Path) (b : Below) → (margin ≺ (by_way 0f 0f [] b).cost) ≡ false → P p b → P (branch_on m k p) (by_way 0f 0f [] b)
     pub kept : (m : Merge) (k p : Path) (b : Below) → (m.cost ≼ margin) ≡ true → (margin ≺ (by_way m.cost m.graph (m.number ∷ []) b).cost) ≡ false → P k b → P (branch_on m k p) (by_way m.cost m.graph (m.number ∷ []) b)
 
@@ -32,7 +32,7 @@ module _ (margin : Float) (cap : ℕ) (P : Path → Below → Type 0) where
   unfolding below cheapest
   below_each d empty_path b (here e) = subst (P empty_path) (sym e) d.start
   below_each d empty_path b (there m) = elim m [ ]
-  below_each d (arc_on_lem x p) b m = let (o, n, e) = map_from (on_top (word x)) (below margin cap p) b m in subst (P (arc_on_lem x p)) (sym e) (d.arc x p o (below_each d p o n))
+  below_each d (arc_onto x p) b m = let (o, n, e) = map_from (on_top (word x)) (below margin cap p) b m in subst (P (arc_onto x p)) (sym e) (d.arc x p o (below_each d p o n))
   below_each d (branch_on m k p) b n = case (Memᴰ.append_cases owns (keep_from fits (owns ++ kepts) b in_kept)) (λ i. by_own (below_each d p) i) (λ i. by_kept (m.cost ≼ margin) refl (below_each d k) i)
     where
       owns : List Below
@@ -66,7 +66,7 @@ module _ (margin : Float) (cap : ℕ) (P : Path → Below → Type 0) where
 
 -- the words along a route, newest first
 abbrev pub words_back_along : (route : List ℕ) → Path → List ℤ
-words_back_along route p = reverse (words_on_lem (along route p))
+words_back_along route p = reverse (words_along (along route p))
 
 -- every number of a route is below f
 abbrev pub Under : (f : ℕ) → List ℕ → Type 0
@@ -91,7 +91,7 @@ not_among f n (k ∷ route) i u = rw (ne_eqb n k (λ e. let z = u.0 in omega ari
 along_fresh : (n : ℕ) (route : List ℕ) (p : Path) → Falling n p → along (n ∷ route) p ≡ along route p
 unfolding along
 along_fresh n route empty_path d = refl
-along_fresh n route (arc_on_lem x p) d = ap (λ (l : List Arc). l ++ (x.arc ∷ [])) (along_fresh n route p (falling_more x.number n p (let z = d.0 in omega arith) d.1))
+along_fresh n route (arc_onto x p) d = ap (λ (l : List Arc). l ++ (x.arc ∷ [])) (along_fresh n route p (falling_more x.number n p (let z = d.0 in omega arith) d.1))
 along_fresh n route (branch_on m k p) d = go (eqb m.number n) (memℕ m.number route) (ne_eqb m.number n (λ e. let z = d.0 in omega arith)) (along_fresh n route k (more k d.1)) (along_fresh n route p (more p d.2))
   where
     more : (q : Path) → Falling m.number q → Falling n q
@@ -103,9 +103,9 @@ along_fresh n route (branch_on m k p) d = go (eqb m.number n) (memℕ m.number r
     go false true q e f = e
     go false false q e f = f
 
-one_word : (route : List ℕ) (x : Step) (p : Path) → words_back_along route (arc_on_lem x p) ≡ with_word (word x) (words_back_along route p)
+one_word : (route : List ℕ) (x : Step) (p : Path) → words_back_along route (arc_onto x p) ≡ with_word (word x) (words_back_along route p)
 unfolding along
-one_word route x p = ap reverse (words_append (along route p) (x.arc ∷ [])) ∙ reverse-append (words_on_lem (along route p)) (with_word (word x) []) ∙ go (nonzero (word x))
+one_word route x p = ap reverse (words_append (along route p) (x.arc ∷ [])) ∙ reverse-append (words_along (along route p)) (with_word (word x) []) ∙ go (nonzero (word x))
   where
     go : (b : Bool) → reverse (cond b (word x ∷ []) []) ++ words_back_along route p ≡ cond b (word x ∷ words_back_along route p) (words_back_along route p)
     go true = refl
@@ -119,14 +119,14 @@ kept_along : (m : Merge) (k p : Path) (route : List ℕ) → Falling m.number k 
 unfolding along
 kept_along m k p route d = ap (λ (c : Bool). elim (c || memℕ m.number route) as (λ x. List Arc) [ true ↦ along (m.number ∷ route) k | false ↦ along (m.number ∷ route) p ]) (eq-eqb m.number m.number refl) ∙ along_fresh m.number route k d
 
-keyed_arc : (f : ℕ) (x : Step) (p : Path) (b : Below) → Keyed f p b → Keyed f (arc_on_lem x p) (on_top (word x) b)
+keyed_arc : (f : ℕ) (x : Step) (p : Path) (b : Below) → Keyed f p b → Keyed f (arc_onto x p) (on_top (word x) b)
 unfolding on_top hash_words
 keyed_arc f x p b d = go (nonzero (word x)) (one_word b.route x p)
   where
     ws : List ℤ
     ws = words_back_along b.route p
 
-    go : (c : Bool) → words_back_along b.route (arc_on_lem x p) ≡ cond c (word x ∷ ws) ws → Keyed f (arc_on_lem x p) (cond c (record { hash = hash_word (word x) b.hash; len = suc b.len; cost = b.cost; graph = b.graph; route = b.route }) b)
+    go : (c : Bool) → words_back_along b.route (arc_onto x p) ≡ cond c (word x ∷ ws) ws → Keyed f (arc_onto x p) (cond c (record { hash = hash_word (word x) b.hash; len = suc b.len; cost = b.cost; graph = b.graph; route = b.route }) b)
     go true e = record { hash = ap (hash_word (word x)) d.hash ∙ ap hash_words (sym e); len = ap suc d.len ∙ ap length (sym e); under = d.under }
     go false e = record { hash = d.hash ∙ ap hash_words (sym e); len = d.len ∙ ap length (sym e); under = d.under }
 
@@ -138,11 +138,11 @@ below_downward margin cap =
       arc = λ x p b r f d. keyed_arc f x p b (under_arc x p b f d.0 (r x.number d.1));
       own = λ m k p b i r f d.
           let z = r m.number d.2 in
-          let e = ap (λ (l : List Arc). reverse (words_on_lem l)) (own_along m k p b.route z.under) in
+          let e = ap (λ (l : List Arc). reverse (words_along l)) (own_along m k p b.route z.under) in
           record { hash = z.hash ∙ ap hash_words (sym e); len = z.len ∙ ap length (sym e); under = under_more m.number f b.route (let y = d.0 in omega arith) z.under };
       kept = λ m k p b j i r f d.
           let z = r m.number d.1 in
-          let e = ap (λ (l : List Arc). reverse (words_on_lem l)) (kept_along m k p b.route d.1) in
+          let e = ap (λ (l : List Arc). reverse (words_along l)) (kept_along m k p b.route d.1) in
           record { hash = z.hash ∙ ap hash_words (sym e); len = z.len ∙ ap length (sym e); under = (d.0, under_more m.number f b.route (let y = d.0 in omega arith) z.under) };
     }
   where

@@ -13,7 +13,7 @@ use Rattle.model.specs.Passes.{emitting_pass, nonemitting_pass, State, during, s
 use Rattle.model.specs.Reads.{Ranked, use_finals, ranked as ranked_tokens, Traced, Group}
 use Rattle.model.specs.Readings.{Below, below, readings as listing}
 use Rattle.model.specs.Calls.{Sizes, Read, best_path_read, alternatives_read, readings_read, relative_cost_read, num_active_read, frames_decoded_read, Call, start_call, frame_call, keep_call, read_call, Reading, Answer, refusal_answer, done_answer, path_answer, paths_answer, readings_answer, count_answer, cost_answer}
-use Rattle.copy_laws.specs.Walks.{emitted, Walk, words_on_lem, sum_of}
+use Rattle.copy_laws.specs.Walks.{emitted, Walk, words_along, sum_of}
 use Rattle.copy_laws.specs.Routes.{along, arcs}
 use Rattle.copy_laws.specs.Tables.{At}
 use Rattle.copy_laws.specs.Sums.{Signed}
@@ -37,7 +37,7 @@ pub record OnePath (g : Graph) (pt : Point) (finals : Bool) (ws : List ℤ) : Ty
   pub walk : Walk g pt.heard route end
   pub frames : emitted route ≡ pt.state.frames
   pub final : finals ≡ true → is_final g end ≡ true
-  pub words : ws ≡ words_on_lem route
+  pub words : ws ≡ words_along route
 
 -- a traced path: each word has the frame of its arc
 pub record OneTrace (g : Graph) (pt : Point) (finals : Bool) (tr : Traced) : Type 0 where

@@ -15,7 +15,7 @@ use Rattle.model.specs.Reads.{ranked, Traced, trace, Group, own_group, grouped, 
 use Rattle.model.specs.Readings.{read_order, merged, Readings, expanded, plain, readings}
 use Rattle.copy_laws.specs.Labels.{words_alike, words_same}
 use Rattle.copy_laws.specs.Minima.{apart_nodup}
-use Rattle.copy_laws.specs.Walks.{words_on_lem}
+use Rattle.copy_laws.specs.Walks.{words_along}
 use Rattle.copy_laws.specs.Routes.{along, trace_words}
 use Rattle.copy_laws.specs.Listed.{grouped_listed, readings_listed_lem}
 
@@ -59,7 +59,7 @@ abbrev pub traced_words : List Traced → List (List ℤ)
 traced_words = map (λ (t : Traced). t.words)
 
 abbrev WordsRight : Group → Type 0
-WordsRight x = x.words ≡ words_on_lem (along x.route x.token.path)
+WordsRight x = x.words ≡ words_along (along x.route x.token.path)
 
 traces_say : (st : State) (xs : List Group) → ((x : Group) → x ∈ xs → WordsRight x) → traced_words (map (λ (x : Group). trace st.frames x.route x.token.path x.cost) xs) ≡ group_words xs
 traces_say st [] h = refl

@@ -15,7 +15,7 @@ use Rattle.model.specs.Path.{Table, same_words}
 use Rattle.model.specs.Passes.{State}
 use Rattle.model.specs.Reads.{Ranked, use_finals, sooner, ranked, Group, own_group, grouped}
 use Rattle.model.specs.Readings.{Below, below, same_head, same_key, heads, Kept, kept_of, kept_below, kept_map, kept_group, read_order, rank_at, merged, Readings, expanded, plain, readings}
-use Rattle.copy_laws.specs.Walks.{words_on_lem}
+use Rattle.copy_laws.specs.Walks.{words_along}
 use Rattle.copy_laws.specs.Routes.{along, trace_words, own_words_lem}
 use Rattle.copy_laws.specs.Tables.{At}
 use Rattle.copy_laws.specs.Ranks.{ranked_at_lem, ranked_final}
@@ -24,7 +24,7 @@ pub record Listed (g : Graph) (finals : Bool) (ts : Table) (x : Group) : Type 0 
   pub state : ℕ
   pub at : At ts state x.token
   pub final : finals ≡ true → is_final g state ≡ true
-  pub words : x.words ≡ words_on_lem (along x.route x.token.path)
+  pub words : x.words ≡ words_along (along x.route x.token.path)
 
 -- ---- the survivors
 

@@ -16,7 +16,7 @@ use Rattle.model.specs.Basics.{◌≺◌, ◌≼◌, ◌⊕◌, ◌⊖◌, refus
 use Rattle.model.specs.Graph.{Graph, Arc, no_state, arcs_of, emits, has_eps}
 use Rattle.model.specs.Path.{Path, Token, Table, Limits, is_link, memℕ}
 use Rattle.model.specs.Cutoff.{Config, best, get_cutoff}
-use Rattle.model.specs.Arrive.{Pass, emitting, nonemitting, takes, loglike, lower, total, Here, Work, Meets, cut_off_lem, vacant, better, not_better, against, meets, step_on, arriving, keeps, keep, in_hand_lem, check_winner, Change, arc_cut, token_stays, token_wins, token_joins, fills, beats, loses, settle, passed, put, push, push_winner, push_joined, finish, place_of, arrive, arrive_all}
+use Rattle.model.specs.Arrive.{Pass, emitting, nonemitting, takes, loglike, lower, total, Here, Work, Meets, past_cutoff, vacant, better, not_better, against, meets, step_on, arriving, keeps, keep, path_in_hand, check_winner, Change, arc_cut, token_stays, token_wins, token_joins, fills, beats, loses, settle, passed, put, push, push_winner, push_joined, finish, place_of, arrive, arrive_all}
 use Rattle.model.specs.Passes.{first_look, offset_of, look, empty_work, emit_from, emitting_pass, push_from, popped, expand, drain, fuel, nonemitting_pass, State, dropped, done, during, start_work, start, check_frame, frame, fair_margin, set_keep}
 use Rattle.model.specs.Reads.{best_path, Traced, Group, trace_groups, alternatives}
 use Rattle.model.specs.Readings.{readings}
@@ -84,11 +84,11 @@ module _ (ns : List ℕ) (full : 13 ∈ ns) (queue : 14 ∈ ns) (h : Here) where
   winner_by : (w : Work) (p : Pass) (t : Token) (a : Arc) → Tamed p t a → By ns (check_winner h w p t a)
   unfolding check_winner
   winner_by w p t a d = by_bind ns (check 12 (tame (t.graph ⊕ a.weight))) _ (by_check ns 12 (tame (t.graph ⊕ a.weight)) d.graph) λ u.
-      by_check ns 13 (not (is_link (step_on h p t a 0 false) && h.limits.full (in_hand_lem h w t.path))) (λ e. full)
+      by_check ns 13 (not (is_link (step_on h p t a 0 false) && h.limits.full (path_in_hand h w t.path))) (λ e. full)
 
   settle_by : (p : Pass) (t : Token) (a : Arc) (w : Work) → Tamed p t a → (m : Meets) → By ns (settle h p t a w m)
   unfolding settle fills beats loses
-  settle_by p t a w d cut_off_lem = tt
+  settle_by p t a w d past_cutoff = tt
   settle_by p t a w d vacant =
       by_bind ns (check 12 (tame (total h.graph p t a))) _ (by_check ns 12 (tame (total h.graph p t a)) d.cost) λ u.
       by_bind ns (check_winner h w p t a) _ (winner_by w p t a d) λ v. tt
@@ -96,11 +96,11 @@ module _ (ns : List ℕ) (full : 13 ∈ ns) (queue : 14 ∈ ns) (h : Here) where
       let new = arriving h p t a w.fresh held.seq false in
       by_bind ns (check 12 (tame (total h.graph p t a))) _ (by_check ns 12 (tame (total h.graph p t a)) d.cost) λ u.
       by_bind ns (check_winner h w p t a) _ (winner_by w p t a d) λ v.
-      by_bind ns (keep h (in_hand_lem h w new.path) (suc w.fresh) gap new held) _ (keep_by _ (suc w.fresh) gap new held) λ j. tt
+      by_bind ns (keep h (path_in_hand h w new.path) (suc w.fresh) gap new held) _ (keep_by _ (suc w.fresh) gap new held) λ j. tt
   settle_by p t a w d (not_better gap held) =
       let new = arriving h p t a w.fresh 0 true in
       by_bind ns (check 12 (tame (total h.graph p t a))) _ (by_check ns 12 (tame (total h.graph p t a)) d.cost) λ u.
-      by_bind ns (keep h (in_hand_lem h w new.path) (suc w.fresh) gap held new) _ (keep_by _ (suc w.fresh) gap held new) λ j. tt
+      by_bind ns (keep h (path_in_hand h w new.path) (suc w.fresh) gap held new) _ (keep_by _ (suc w.fresh) gap held new) λ j. tt
 
   -- an arc that is cut off is not tested
   arrive_by : (p : Pass) (t : Token) (a : Arc) (w : Work) → ((w.cutoff ≼ total h.graph p t a) ≡ false → Tamed p t a) → By ns (arrive h p t a w)
@@ -109,7 +109,7 @@ module _ (ns : List ℕ) (full : 13 ∈ ns) (queue : 14 ∈ ns) (h : Here) where
       let tot = total h.graph p t a in
       by_bind ns (settle h p t a w (meets w.cutoff tot (place_of w a))) (finish h p a.target tot w) (go (w.cutoff ≼ tot) refl) (finish_by p a.target tot w)
     where
-      go : (b : Bool) → (w.cutoff ≼ total h.graph p t a) ≡ b → By ns (settle h p t a w (elim b as (λ c. Meets) [ true ↦ cut_off_lem | false ↦ against (total h.graph p t a) (place_of w a) ]))
+      go : (b : Bool) → (w.cutoff ≼ total h.graph p t a) ≡ b → By ns (settle h p t a w (elim b as (λ c. Meets) [ true ↦ past_cutoff | false ↦ against (total h.graph p t a) (place_of w a) ]))
       go true e = unfold settle in tt
       go false e = settle_by p t a w (d e) (against (total h.graph p t a) (place_of w a))
 

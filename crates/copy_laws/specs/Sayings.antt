@@ -137,11 +137,30 @@ module _ (g : Graph) (c : Config) (ks : List (Call × ℕ)) where
   words_say k a (says_readings {f = f} {n = n} {max = max} {z = z} {rs = rs} {ts = ts} b) ws m =
       let P = OfPath (read_call (readings_read f n max z)) in
       case (Memᴰ.append_cases (map (λ (r : Reading). r.words) rs) m) (each_say (λ (r : Reading). r.words) rs P b.each ws) (each_say (λ (tr : Traced). tr.words) ts P (λ tr i. (b.traced tr i).path) ws)
+  words_say k _ (says_refused r) ws m = elim m [ ]
+  words_say _ _ says_started ws m = elim m [ ]
+  words_say _ _ (says_heard {ls = ls}) ws m = elim m [ ]
+  words_say _ _ says_kept ws m = elim m [ ]
+  words_say _ _ (says_best {o = none} b) ws m = elim m [ ]
+  words_say _ _ (says_best {o = some t} b) ws (there m) = elim m [ ]
+  words_say _ _ (says_cost _) ws m = elim m [ ]
+  words_say _ _ (says_active n) ws m = elim m [ ]
+  words_say _ _ (says_decoded _) ws m = elim m [ ]
 
   pub lists_say : (k : Call) (a : Answer) → Says g c ks k a → (wss : List (List ℤ)) → wss ∈ lists_in a → Nodup wss
   lists_say k a (says_alternatives b) wss (here e) = subst Nodup (sym e) b.distinct
   lists_say k a (says_readings b) wss (here e) = subst Nodup (sym e) b.distinct
   lists_say k a (says_readings b) wss (there (here e)) = subst Nodup (sym e) b.traced_distinct
+  lists_say k _ (says_refused r) wss m = elim m [ ]
+  lists_say _ _ says_started wss m = elim m [ ]
+  lists_say _ _ (says_heard {ls = ls}) wss m = elim m [ ]
+  lists_say _ _ says_kept wss m = elim m [ ]
+  lists_say _ _ (says_best _) wss m = elim m [ ]
+  lists_say _ _ (says_alternatives b) wss (there m) = elim m [ ]
+  lists_say _ _ (says_readings b) wss (there (there m)) = elim m [ ]
+  lists_say _ _ (says_cost _) wss m = elim m [ ]
+  lists_say _ _ (says_active n) wss m = elim m [ ]
+  lists_say _ _ (says_decoded _) wss m = elim m [ ]
 
   pub best_says : (k : Call) (o : Option Traced) → Says g c ks k (path_answer o) → BestOrNone g (reached g c ks) (NothingCut g c ks) (use_finals g (reached g c ks).state (asks_finals k)) o
   best_says k o (says_best b) = b

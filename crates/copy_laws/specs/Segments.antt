@@ -11,7 +11,7 @@ use Rattle.lists.specs.Lists.{◌∈◌, keep_if}
 use Rattle.lists.specs.Count.{count-append}
 use Rattle.model.specs.Basics.{eqℤ, nonzero}
 use Rattle.model.specs.Graph.{Graph, Arc, arcs_of, emits, phone_of}
-use Rattle.model.specs.Path.{Path, empty_path, arc_on_lem, branch_on, word}
+use Rattle.model.specs.Path.{Path, empty_path, arc_onto, branch_on, word}
 use Rattle.model.specs.Reads.{Segment, Rec, recs_on, phone_recs, segments, trace}
 use Rattle.model.specs.Checked.{GoodGraph}
 use Rattle.copy_laws.specs.Labels.{eqℤ_same}
@@ -51,7 +51,7 @@ Phoned g route = (a : Arc) → a ∈ route → emits a ≡ true → nonzero (pho
 recs_mark : (g : Graph) (n : ℕ) (p : Path) (rs : List Rec) (qs : List ℤ) → Marked g p → Phoned g (arcs p) → Marks (phone_on g p) (emitted (arcs p)) n rs qs → Marks (pos 0) 0 n (recs_on [] n p rs) (phones_on g (arcs p) ++ qs)
 unfolding recs_on along phone_from
 recs_mark g n empty_path rs qs m f d = d
-recs_mark g n (arc_on_lem x p) rs qs m f d =
+recs_mark g n (arc_onto x p) rs qs m f d =
     subst (λ (l : List ℤ). Marks (pos 0) 0 n (recs_on [] n p (r ∷ rs)) l) (sym (append_assoc (phones_on g (arcs p)) (phones_on g (x.arc ∷ [])) qs) ∙ ap (λ (l : List ℤ). l ++ qs) (sym (phones-append g (arcs p) (x.arc ∷ []))))
     (recs_mark g n p (r ∷ rs) (phones_on g (x.arc ∷ []) ++ qs) m.1 (λ a i. f a (Memᴰ.append_left (x.arc ∷ []) i)) (one (emits x.arc) refl))
   where

@@ -3,7 +3,7 @@ use Rattle.std.specs.Prelude.{◌≡◌, refl, ℕ, ◌-◌, ◌<◌, ◌≤◌,
 use Rattle.std.proofs.Common.{sym, ap, ◌∙◌, arith, append_assoc}
 use Rattle.model.specs.Basics.{◌⊖◌, eqℤ}
 use Rattle.model.specs.Graph.{Graph, Arc, emits, phone_of}
-use Rattle.model.specs.Path.{Step, Merge, Path, empty_path, arc_on_lem, branch_on}
+use Rattle.model.specs.Path.{Step, Merge, Path, empty_path, arc_onto, branch_on}
 use Rattle.copy_laws.specs.Walks.{Heard, emitted, sum_of, weights_of}
 use Rattle.copy_laws.specs.Routes.{arcs, Walks}
 use Rattle.copy_laws.specs.Sums.{Difference}
@@ -12,12 +12,12 @@ use Rattle.copy_laws.specs.Sums.{Difference}
 
 abbrev pub Falling : (f : ℕ) → Path → Type 0
 Falling f empty_path = Unit {0}
-Falling f (arc_on_lem x p) = (x.number < f) × Falling x.number p
+Falling f (arc_onto x p) = (x.number < f) × Falling x.number p
 Falling f (branch_on m k p) = (m.number < f) × Falling m.number k × Falling m.number p
 
 pub falling_more : (f f' : ℕ) (p : Path) → f ≤ f' → Falling f p → Falling f' p
 falling_more f f' empty_path i d = tt
-falling_more f f' (arc_on_lem x p) i d = (let z = d.0 in omega arith, d.1)
+falling_more f f' (arc_onto x p) i d = (let z = d.0 in omega arith, d.1)
 falling_more f f' (branch_on m k p) i d = (let z = d.0 in omega arith, d.1, d.2)
 
 -- ---- phones
@@ -46,7 +46,7 @@ pub record Mark (g : Graph) (x : Step) (p : Path) : Type 0 where
 
 abbrev pub Marked : Graph → Path → Type 0
 Marked g empty_path = Unit {0}
-Marked g (arc_on_lem x p) = Mark g x p × Marked g p
+Marked g (arc_onto x p) = Mark g x p × Marked g p
 Marked g (branch_on m k p) = Marked g k × Marked g p
 
 -- ---- branches
@@ -66,7 +66,7 @@ pub record Fork (g : Graph) (fs : List Heard) (m : Merge) (k p : Path) : Type 0 
 
 abbrev pub Forks : Graph → List Heard → Path → Type 0
 Forks g fs empty_path = Unit {0}
-Forks g fs (arc_on_lem x p) = Forks g fs p
+Forks g fs (arc_onto x p) = Forks g fs p
 Forks g fs (branch_on m k p) = Fork g fs m k p × Forks g fs k × Forks g fs p
 
 fork_more : (g : Graph) (fs more : List Heard) (m : Merge) (k p : Path) → Fork g fs m k p → Fork g (fs ++ more) m k p
@@ -75,16 +75,16 @@ fork_more g fs more m k p b =
 
 pub forks_more : (g : Graph) (fs more : List Heard) (p : Path) → Forks g fs p → Forks g (fs ++ more) p
 forks_more g fs more empty_path b = tt
-forks_more g fs more (arc_on_lem x p) b = forks_more g fs more p b
+forks_more g fs more (arc_onto x p) b = forks_more g fs more p b
 forks_more g fs more (branch_on m k p) b = (fork_more g fs more m k p b.0, forks_more g fs more k b.1, forks_more g fs more p b.2)
 
 -- the differences alone
 abbrev pub Differences : Path → Type 0
 Differences empty_path = Unit {0}
-Differences (arc_on_lem x p) = Differences p
+Differences (arc_onto x p) = Differences p
 Differences (branch_on m k p) = Difference m × Differences k × Differences p
 
 pub differences : (g : Graph) (fs : List Heard) (p : Path) → Forks g fs p → Differences p
 differences g fs empty_path b = tt
-differences g fs (arc_on_lem x p) b = differences g fs p b
+differences g fs (arc_onto x p) b = differences g fs p b
 differences g fs (branch_on m k p) b = (b.0.small, differences g fs k b.1, differences g fs p b.2)

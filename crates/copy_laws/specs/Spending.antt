@@ -14,7 +14,7 @@ use Rattle.real32.specs.Small.{tame}
 use Rattle.model.specs.Basics.{◌≺◌, ◌≼◌, ◌⊖◌, over, check}
 use Rattle.model.specs.Graph.{Arc, has_eps}
 use Rattle.model.specs.Path.{Path, Token, Table, memℕ}
-use Rattle.model.specs.Arrive.{nonemitting, total, lower, Here, Work, Meets, cut_off_lem, vacant, better, not_better, against, meets, arriving, joined, keeps, keep, in_hand_lem, check_winner, Change, arc_cut, token_stays, token_wins, token_joins, or_else, joins_or_stays, fills, beats, loses, settle, passed, put, push, finish, place_of, arrive}
+use Rattle.model.specs.Arrive.{nonemitting, total, lower, Here, Work, Meets, past_cutoff, vacant, better, not_better, against, meets, arriving, joined, keeps, keep, path_in_hand, check_winner, Change, arc_cut, token_stays, token_wins, token_joins, or_else, joins_or_stays, fills, beats, loses, settle, passed, put, push, finish, place_of, arrive}
 use Rattle.model.specs.Accepted.{Ok, then, after, branches}
 use Rattle.copy_laws.specs.Tables.{At}
 
@@ -116,7 +116,7 @@ module _ (h : Here) (n : ℕ) (t : Token) (a : Arc) (w : Work) (inside : a.targe
   -- ---- what was met there
 
   abbrev Met : Meets → Type 0
-  Met cut_off_lem = Unit {0}
+  Met past_cutoff = Unit {0}
   Met vacant = place_of w a ≡ none
   Met (better gap held) = (place_of w a ≡ some held) × T (tot ≺ held.cost)
   Met (not_better gap held) = place_of w a ≡ some held
@@ -129,7 +129,7 @@ module _ (h : Here) (n : ℕ) (t : Token) (a : Arc) (w : Work) (inside : a.targe
       beside held e true l = (e, holds l)
       beside held e false l = e
 
-      go : (b : Bool) (o : Option Token) → place_of w a ≡ o → Met (elim b as (λ c. Meets) [ true ↦ cut_off_lem | false ↦ against tot o ])
+      go : (b : Bool) (o : Option Token) → place_of w a ≡ o → Met (elim b as (λ c. Meets) [ true ↦ past_cutoff | false ↦ against tot o ])
       go true o e = tt
       go false none e = e
       go false (some held) e = beside held e (tot ≺ held.cost) refl
@@ -152,13 +152,13 @@ module _ (h : Here) (n : ℕ) (t : Token) (a : Arc) (w : Work) (inside : a.targe
 
   settle_lighter : T (fits binary32 tot) → ((held : Token) → place_of w a ≡ some held → T (fits binary32 held.cost)) → (m : Meets) → Met m → Ok Lighter (settle h nonemitting t a w m)
   unfolding settle fills beats loses arriving
-  settle_lighter f k cut_off_lem e = tt
+  settle_lighter f k past_cutoff e = tt
   settle_lighter f k vacant e =
       after Lighter (check 12 (tame tot)) _ λ u. after Lighter (check_winner h w nonemitting t a) _ λ x. let z : value (place_of w a) ≡ value none = ap value e in let y = rank_32 tot f in omega arith
   settle_lighter f k (better gap held) e =
       let won = arriving h nonemitting t a w.fresh held.seq false in
       after Lighter (check 12 (tame tot)) _ λ u. after Lighter (check_winner h w nonemitting t a) _ λ x.
-      then (CostsAs won) Lighter (keep h (in_hand_lem h w won.path) (suc w.fresh) gap won held) _ (keep_cost _ (suc w.fresh) gap won held) λ j c.
+      then (CostsAs won) Lighter (keep h (path_in_hand h w won.path) (suc w.fresh) gap won held) _ (keep_cost _ (suc w.fresh) gap won held) λ j c.
       let z : value (place_of w a) ≡ value (some held) = ap value e.0 in
       let y = rank_lt binary32 tot held.cost f (k held e.0) e.1 in
       let q = or_else_cost won j c in
@@ -166,7 +166,7 @@ module _ (h : Here) (n : ℕ) (t : Token) (a : Arc) (w : Work) (inside : a.targe
   settle_lighter f k (not_better gap held) e =
       let lost = arriving h nonemitting t a w.fresh 0 true in
       after Lighter (check 12 (tame tot)) _ λ u.
-      then (CostsAs held) Lighter (keep h (in_hand_lem h w lost.path) (suc w.fresh) gap held lost) _ (keep_cost _ (suc w.fresh) gap held lost) λ j c. joins_lighter held e j c
+      then (CostsAs held) Lighter (keep h (path_in_hand h w lost.path) (suc w.fresh) gap held lost) _ (keep_cost _ (suc w.fresh) gap held lost) λ j c. joins_lighter held e j c
 
   pub arrive_spends : T (fits binary32 tot) → ((held : Token) → place_of w a ≡ some held → T (fits binary32 held.cost)) → Ok Spends (arrive h nonemitting t a w)
   unfolding arrive

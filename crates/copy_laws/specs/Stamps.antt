@@ -4,7 +4,7 @@ use Rattle.std.proofs.Common.{sym, ap, ◌∙◌, arith, append-nil, append_asso
 use Rattle.lists.specs.Count.{count-append}
 use Rattle.model.specs.Basics.{nonzero}
 use Rattle.model.specs.Graph.{Graph, Arc, emits}
-use Rattle.model.specs.Path.{Step, Path, empty_path, arc_on_lem, branch_on, word, memℕ}
+use Rattle.model.specs.Path.{Step, Path, empty_path, arc_onto, branch_on, word, memℕ}
 use Rattle.model.specs.Reads.{Rec, resume, recs_on, trace}
 use Rattle.copy_laws.specs.Walks.{Heard, emitted}
 use Rattle.copy_laws.specs.Routes.{along, arcs, told, told-cons, told_resume}
@@ -41,7 +41,7 @@ frames_on route a =
 emitted_along : (g : Graph) (fs : List Heard) (route : List ℕ) (p : Path) → Forks g fs p → emitted (along route p) ≡ emitted (arcs p)
 unfolding along
 emitted_along g fs route empty_path b = refl
-emitted_along g fs route (arc_on_lem x p) b = let z = emitted_along g fs route p b in let i = count-append emits (along route p) (x.arc ∷ []) in let j = count-append emits (arcs p) (x.arc ∷ []) in omega arith
+emitted_along g fs route (arc_onto x p) b = let z = emitted_along g fs route p b in let i = count-append emits (along route p) (x.arc ∷ []) in let j = count-append emits (arcs p) (x.arc ∷ []) in omega arith
 emitted_along g fs route (branch_on m k p) b = go (memℕ m.number route) ((b.0.kept route).frames ∙ sym (b.0.won []).frames) (emitted_along g fs route p b.2)
   where
     go : (c : Bool) → emitted (along route k) ≡ emitted (arcs p) → emitted (along route p) ≡ emitted (arcs p) → emitted (elim c as (λ x. List Arc) [ true ↦ along route k | false ↦ along route p ]) ≡ emitted (arcs p)
@@ -61,7 +61,7 @@ frame_is g x p m = go (emits x.arc) refl
 stamps_recs : (g : Graph) (fs : List Heard) (route : List ℕ) (n : ℕ) (p : Path) (rs : List Rec) → Forks g fs p → Marked g p → stamps (recs_on route n p rs) ≡ word_frames_on (along route p) ++ stamps rs
 unfolding recs_on along word_frames_from
 stamps_recs g fs route n empty_path rs b q = refl
-stamps_recs g fs route n (arc_on_lem x p) rs b q =
+stamps_recs g fs route n (arc_onto x p) rs b q =
     let r : Rec = record { frame = x.frame; word = word x; phone = x.starts } in
     let before = word_frames_on (along route p) in
     let one : ℕ → List ℕ = λ i. cond (nonzero (word x)) (i ∷ []) [] in

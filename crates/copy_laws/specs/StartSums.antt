@@ -122,3 +122,4 @@ module _ (g : Graph) (c : Config) (good : GoodGraph g) (fair-beam : fair c.beam 
       one : (n : ℕ) → n ∈ (13 ∷ 14 ∷ []) → (n ≡ 13) ⊎ (n ≡ 14)
       one n (here e) = inl e
       one n (there (here e)) = inr e
+      one n (there (there m)) = elim m [ ]

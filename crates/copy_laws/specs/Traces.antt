@@ -7,7 +7,7 @@ use Rattle.lists.specs.Tests.{never}
 use Rattle.lists.specs.Lists.{keep_if}
 use Rattle.model.specs.Basics.{eqℤ, nonzero}
 use Rattle.model.specs.Graph.{Graph}
-use Rattle.model.specs.Path.{Path, empty_path, arc_on_lem, branch_on, word}
+use Rattle.model.specs.Path.{Path, empty_path, arc_onto, branch_on, word}
 use Rattle.model.specs.Reads.{Traced, Rec, recs_on, word_recs, phone_recs, segments, trace}
 use Rattle.model.specs.Checked.{GoodGraph}
 use Rattle.copy_laws.specs.Labels.{eqℤ_same}
@@ -21,7 +21,7 @@ use Rattle.copy_laws.specs.Segments.{phones_on, Marks, marks_end, marks_epsilon,
 -- The records of a path and of no kept one, in front of later ones, oldest first. An arc with neither a word nor a change of phone has none in the Rust, and adds nothing here.
 unfoldable pub own_recs : Path → List Rec → List Rec
 own_recs empty_path rs = rs
-own_recs (arc_on_lem s p) rs = own_recs p (record { frame = s.frame; word = word s; phone = s.starts } ∷ rs)
+own_recs (arc_onto s p) rs = own_recs p (record { frame = s.frame; word = word s; phone = s.starts } ∷ rs)
 own_recs (branch_on m k p) rs = own_recs p rs
 
 -- the records with a phone: each opens a segment, whatever phone is open
@@ -65,7 +65,7 @@ phone_recs_lem ph (r ∷ rs) d = go (nonzero r.phone) refl d.0 (phone_recs_lem p
 own_recs_lem : (n : ℕ) (p : Path) (rs : List Rec) → recs_on [] n p rs ≡ own_recs p rs
 unfolding recs_on own_recs
 own_recs_lem n empty_path rs = refl
-own_recs_lem n (arc_on_lem s p) rs = own_recs_lem n p _
+own_recs_lem n (arc_onto s p) rs = own_recs_lem n p _
 own_recs_lem n (branch_on m k p) rs = own_recs_lem n p rs
 
 module _ (g : Graph) (good : GoodGraph g) (n s : ℕ) (p : Path) (marked : Marked g p) (leads : Leads g g.start (arcs p) s) (frames : emitted (arcs p) ≡ n) where

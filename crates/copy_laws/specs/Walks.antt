@@ -35,8 +35,8 @@ pub record Walk (g : Graph) (fs : List Heard) (route : List Arc) (s : ℕ) : Typ
 -- ---- words and sums
 
 -- the nonzero output labels
-abbrev pub words_on_lem : List Arc → List ℤ
-words_on_lem route = keep_if nonzero (map (λ (a : Arc). a.olabel) route)
+abbrev pub words_along : List Arc → List ℤ
+words_along route = keep_if nonzero (map (λ (a : Arc). a.olabel) route)
 
 -- what an emitting arc makes of x in this frame: each sum rounded once, in this order
 abbrev pub emitting_total : Graph → Heard → Float → Arc → Float
@@ -82,7 +82,7 @@ keep_append p (x ∷ xs) ys = go (p x) (keep_append p xs ys)
     go true e = ap (λ (l : List _). x ∷ l) e
     go false e = e
 
-pub words_append : (route more : List Arc) → words_on_lem (route ++ more) ≡ words_on_lem route ++ words_on_lem more
+pub words_append : (route more : List Arc) → words_along (route ++ more) ≡ words_along route ++ words_along more
 words_append route more = ap (keep_if nonzero) (map-append (λ (a : Arc). a.olabel) route more) ∙ keep_append nonzero (map (λ (a : Arc). a.olabel) route) (map (λ (a : Arc). a.olabel) more)
 
 pub weights-append : (x : Float) (route more : List Arc) → weights_from x (route ++ more) ≡ weights_from (weights_from x route) more

@@ -6,7 +6,7 @@ use mathlib.Core.List.Memᴰ.{head as here}
 use mathlib.Core.List.Memᴰ.{tail as there}
 use Rattle.lists.specs.Lists.{◌∈◌, keep_if}
 use Rattle.model.specs.Basics.{◌≺◌, ◌≼◌, ◌⊕◌, 0f, nonzero}
-use Rattle.model.specs.Path.{Merge, Path, empty_path, arc_on_lem, branch_on, word, with_word}
+use Rattle.model.specs.Path.{Merge, Path, empty_path, arc_onto, branch_on, word, with_word}
 use Rattle.model.specs.Hash.{hash_word, hash_words, shift_past, hash_joined, hash_newest_first, newest_first}
 use Rattle.model.specs.Readings.{Below, at_start, on_top, by_way, cheapest, below, words_to_join}
 use Rattle.copy_laws.specs.Below.{below_each}
@@ -16,7 +16,7 @@ use Rattle.copy_laws.specs.Below.{below_each}
 -- the path from its first join down, the start where it has none
 unfoldable pub down_to_join : Path → Path
 down_to_join empty_path = empty_path
-down_to_join (arc_on_lem x p) = down_to_join p
+down_to_join (arc_onto x p) = down_to_join p
 down_to_join (branch_on m k p) = branch_on m k p
 
 -- the Rust's `Way`: a stretch of words, newest first, and what it costs; and the branch whose kept path it takes, if any
@@ -101,7 +101,7 @@ map_id f (x ∷ xs) e = ap₂ ◌∷◌ (e x (here refl)) (map_id f xs (λ y m. 
 pub below_down : (margin : Float) (cap : ℕ) (p : Path) → below margin cap p ≡ map (with_words_on (words_to_join p)) (below margin cap (down_to_join p))
 unfolding below down_to_join
 below_down margin cap empty_path = sym (map_id (with_words_on []) (at_start ∷ []) (λ b m. let r = below_hashed margin cap empty_path b m in no_words b r.0 r.1))
-below_down margin cap (arc_on_lem x p) =
+below_down margin cap (arc_onto x p) =
     let bs = below margin cap (down_to_join p) in
     let ws = words_to_join p in
     ap (map (on_top (word x))) (below_down margin cap p) ∙ map_map (on_top (word x)) (with_words_on ws) bs ∙

@@ -17,7 +17,7 @@ config_of c = record { beam = c.beam; max_active = c.max_active; min_active = c.
 -- a place that holds no token, or one of this cost
 pub data CostIs (held : ℕ) (cost : Float) : Option Token → Type 0 where
   vacant_is : held ≡ 0 → CostIs held cost none
-  token_is_lem : {t : Token} → (held ≡ 0 → ⊥) → t.cost ≡ cost → CostIs held cost (some t)
+  token_itself : {t : Token} → (held ≡ 0 → ⊥) → t.cost ≡ cost → CostIs held cost (some t)
 
 -- the stores show this table, as far as costs go
 pub record Costs (tk : List ℕ) (sm : List Float) (b n : ℕ) (ts : Table) : Type 0 where

@@ -21,7 +21,7 @@ use Rattle.decoder.specs.declared.Called.{Called}
 use Rattle.decoder.specs.declared.Called.TheVariants.{Done, Refused}
 use Rattle.decoder.specs.declared.Fitted.{Fitted}
 use Rattle.decoder.specs.Represents.{LimitsAre, limits_by, limits_by_lem, exact, Represents, CalledBy, called_done, called_refused}
-use Rattle.decoder.specs.Contracts.{Promised, fitted_by, FitIs, fit_graph, fit_unfit, fit_called, LeftOf, GapsLeft}
+use Rattle.decoder.specs.Promises.{Promised, fitted_by, FitIs, fit_graph, fit_unfit, fit_called, LeftOf, GapsLeft}
 use Rattle.decoder.specs.Capacity.{cap_fixed}
 use Rattle.decoder.specs.Keep.{keep_is, frames_is}
 use Rattle.decoder.specs.Behaves.{answer_of, value_of, Behaves, start_behaves, frame_behaves, keep_behaves, best_behaves, alternatives_behaves, readings_behaves, relative_behaves, active_behaves, frames_behaves, Runs, none_yet, one_more}

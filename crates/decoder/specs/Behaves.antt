@@ -18,7 +18,7 @@ use Rattle.decoder.specs.declared.Decoder.{Decoder}
 use Rattle.decoder.specs.declared.Called.{Called}
 use Rattle.decoder.specs.declared.Called.TheVariants.{Done, Refused}
 use Rattle.decoder.specs.Represents.{exact, refusal_of}
-use Rattle.decoder.specs.Contracts.{StartIs, FrameIs, keep_of, ActiveIs, RelativeCostIs, BestPathIs, AlternativesIs, holding, ReadingsIs}
+use Rattle.decoder.specs.Promises.{StartIs, FrameIs, keep_of, ActiveIs, RelativeCostIs, BestPathIs, AlternativesIs, holding, ReadingsIs}
 
 -- ---- what a call says, and the decoder that it gives back
 

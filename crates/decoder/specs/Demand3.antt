@@ -23,7 +23,7 @@ use Rattle.decoder.specs.declared.Decoder.{Decoder}
 use Rattle.decoder.specs.declared.Fitted.{Fitted}
 use Rattle.decoder.specs.declared.Fitted.TheVariants.{Unfit, Done, Refused}
 use Rattle.decoder.specs.Represents.{exact, refusal_of}
-use Rattle.decoder.specs.Contracts.{FitIs, Asked}
+use Rattle.decoder.specs.Promises.{FitIs, Asked}
 use Rattle.decoder.specs.Behaves.{Behaves, Runs}
 
 -- ---- "from a newly fitted decoder"

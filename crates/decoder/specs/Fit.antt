@@ -31,7 +31,7 @@ use Rattle.decoder.specs.declared.Called.{Called}
 use Rattle.decoder.specs.declared.Fitted.{Fitted}
 use Rattle.decoder.specs.declared.Fitted.TheVariants.{Unfit}
 use Rattle.decoder.specs.Represents.{LimitsAre, limits_by, limits_by_lem}
-use Rattle.decoder.specs.Contracts.{Behind, unfit, fitted_by, FitIs, fit_graph, fit_unfit, fit_called}
+use Rattle.decoder.specs.Promises.{Behind, unfit, fitted_by, FitIs, fit_graph, fit_unfit, fit_called}
 use Rattle.decoder.specs.Begin.{BeginGiven, BeginAsks, BeginIs}
 
 abbrev pub new_decoder : Value → Config → (cap : ℕ) → Decoder

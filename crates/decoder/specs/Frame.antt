@@ -13,7 +13,7 @@ use Rattle.lists.specs.Tests.{below_more, holds}
 use Rattle.real32.specs.Small.{tame}
 use Rattle.model.specs.Basics.{first_of, refuse, at_frames, over, Outcome, ok, refused, ◌>>=◌}
 use Rattle.model.specs.Graph.{Graph, states}
-use Rattle.model.specs.Path.{Path, empty_path, arc_on_lem, branch_on, is_link, word, Token, Table, tokens, Limits}
+use Rattle.model.specs.Path.{Path, empty_path, arc_onto, branch_on, is_link, word, Token, Table, tokens, Limits}
 use Rattle.model.specs.Cutoff.{Config as Settings}
 use Rattle.model.specs.Arrive.{Here, Work as ModelWork}
 use Rattle.model.specs.Passes.{State, done, emitting_pass, nonemitting_pass, check_frame, frame}
@@ -29,7 +29,7 @@ use Rattle.cutoff.specs.declared.Config.{Config}
 use Rattle.cutoff.specs.Costs.{config_of, Fine}
 use Rattle.tokens.specs.declared.Token.{Token as Stored}
 use Rattle.tokens.specs.Layout.{place_in, Cell, cell_at, token_of}
-use Rattle.records.specs.History.{History, no_history, tag, history_of, link_on_lem}
+use Rattle.records.specs.History.{History, no_history, tag, history_of, link_onto}
 use Rattle.records.specs.Stands.{Stands}
 use Rattle.stores.specs.Shown.{Shows, shows_none, shows_token, Shown}
 use Rattle.stores.specs.Rep.{Lent, Lens, store_of}
@@ -131,9 +131,9 @@ fine_is g fs ts q n a t m = let (s, e) = at_some ts t m in let u = (a.sound s t 
 tag_falls : (f : ℕ) (p : Path) → Falling f p → tag (history_of p) ≤ f
 unfolding tag history_of
 tag_falls f empty_path d = omega arith
-tag_falls f (arc_on_lem s p) d = go (is_link s && not s.beside) (tag_falls s.number p d.1)
+tag_falls f (arc_onto s p) d = go (is_link s && not s.beside) (tag_falls s.number p d.1)
   where
-    go : (b : Bool) → tag (history_of p) ≤ s.number → tag (cond b (link_on_lem s.number s.frame (word s) s.starts (history_of p)) (history_of p)) ≤ f
+    go : (b : Bool) → tag (history_of p) ≤ s.number → tag (cond b (link_onto s.number s.frame (word s) s.starts (history_of p)) (history_of p)) ≤ f
     go true l = let z = d.0 in omega arith
     go false l = let z = d.0 in omega arith
 tag_falls f (branch_on m k p) d = let z = d.0 in omega arith

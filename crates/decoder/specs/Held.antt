@@ -12,7 +12,7 @@ use Rattle.cutoff.specs.declared.Config.{Config}
 use Rattle.stores.specs.Rep.{Lent}
 use Rattle.arcs.specs.State.{Tables}
 use Rattle.checks.specs.declared.Lengths.{Lengths}
-use Rattle.checks.specs.Fit.{record_places, per_record_lem, Wide, Roomy, fit_roomy}
+use Rattle.checks.specs.Fit.{record_places, for_records, Wide, Roomy, fit_roomy}
 use Rattle.checks.specs.Margin.{asked}
 use Rattle.decoder.specs.declared.Decoder.{Decoder}
 use Rattle.decoder.specs.declared.Called.{Called}
@@ -20,7 +20,7 @@ use Rattle.decoder.specs.declared.Called.TheVariants.{Done, Refused}
 use Rattle.decoder.specs.declared.Fitted.{Fitted}
 use Rattle.decoder.specs.declared.Fitted.TheVariants.{Unfit, Done as FitDone, Refused as FitRefused}
 use Rattle.decoder.specs.Represents.{LimitsAre, limits_by, limits_by_lem, Left, CalledBy, called_done, called_refused}
-use Rattle.decoder.specs.Contracts.{Promised, fitted_by, FitIs, fit_graph, fit_unfit, fit_called, LeftOf, Asked}
+use Rattle.decoder.specs.Promises.{Promised, fitted_by, FitIs, fit_graph, fit_unfit, fit_called, LeftOf, Asked}
 use Rattle.decoder.specs.Capacity.{cap_fixed}
 use Rattle.decoder.specs.Keep.{keep_is}
 use Rattle.decoder.specs.Behaves.{value_of, Behaves, start_behaves, frame_behaves, keep_behaves, best_behaves, alternatives_behaves, readings_behaves, relative_behaves, active_behaves, frames_behaves, Runs, none_yet, one_more}
@@ -40,7 +40,7 @@ module _ {T : Tables} {finals : List Float} {eps : List ℕ} {places : ℕ} {l :
   held_asked {m} {d} H =
       let L = H.left in
       let R = H.room in
-      let records : Wide d.cap (per_record_lem l) = subst (λ (n : ℕ). Wide n (per_record_lem l)) (sym H.cap_is) R.per_record in
+      let records : Wide d.cap (for_records l) = subst (λ (n : ℕ). Wide n (for_records l)) (sym H.cap_is) R.per_record in
       let of : LeftOf m.tokens m.sums m.records m.labels d = record { gaps = m.gaps; T = T; eps = eps; places = places; g = L.g; c = L.c; l = L.l; fs = L.fs; st = L.st; is = L.is } in
       record {
         start = L;

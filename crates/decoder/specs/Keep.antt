@@ -17,7 +17,7 @@ use Rattle.checks.specs.Margin.{asked}
 use Rattle.decoder.specs.declared.Decoder.{Decoder}
 use Rattle.decoder.specs.declared.Called.TheVariants.{Done, Refused}
 use Rattle.decoder.specs.Represents.{Represents, CalledBy, called_done, called_refused}
-use Rattle.decoder.specs.Contracts.{with_margin, unfit, keep_of}
+use Rattle.decoder.specs.Promises.{with_margin, unfit, keep_of}
 
 -- ---- the keep margin
 

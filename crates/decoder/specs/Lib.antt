@@ -1,5 +1,5 @@
 pub mod Represents
-pub mod Contracts
+pub mod Promises
 pub mod Behaves
 pub mod Demand3
 pub mod Begin

@@ -19,7 +19,7 @@ use Rattle.arcs.specs.State.{Tables}
 use Rattle.decoder.specs.declared.Decoder.{Decoder}
 use Rattle.decoder.specs.declared.Called.{Called}
 use Rattle.decoder.specs.Represents.{Fixed, Represents, CalledBy, called_done, called_refused}
-use Rattle.decoder.specs.Contracts.{Behind, Promised, Untouched, FrameIs, FrameLeft}
+use Rattle.decoder.specs.Promises.{Behind, Promised, Untouched, FrameIs, FrameLeft}
 use Rattle.decoder.specs.Begin.{BeginGiven, BeginAsks, BeginIs}
 
 -- ---- the first elements of a list

@@ -19,7 +19,7 @@ use Rattle.decoder.specs.declared.Decoder.{Decoder}
 use Rattle.decoder.specs.declared.Called.{Called}
 use Rattle.decoder.specs.declared.Fitted.{Fitted}
 use Rattle.decoder.specs.Represents.{limits_by_lem, exact, CalledBy, called_done, called_refused}
-use Rattle.decoder.specs.Contracts.{FitIs, fit_graph, fit_unfit, fit_called}
+use Rattle.decoder.specs.Promises.{FitIs, fit_graph, fit_unfit, fit_called}
 use Rattle.decoder.specs.Behaves.{none_yet, one_more}
 use Rattle.decoder.specs.Alike.{Follows, behaves_follows, runs_limited, first_follows, decoder_limited, told_is}
 use Rattle.decoder.specs.Demand3.{FittedAs, Fitting, settings, RunsFrom, calls, Answered, RefusalsNumbered, StartsRefused, past, point, WordsOfOnePath, ReadingsDistinct, SegmentsTile, CostsLeast, AlternativesOwn, ReadingsTraced}

@@ -8,7 +8,7 @@ ghost use Rattle.arcs.specs.State.{tables};
 ghost use Rattle.nonemitting.specs.Expand.{graph_tables};
 ghost use Rattle.fst.specs.Answer.{graph_of};
 ghost use Rattle.decoder.specs.Represents.{setting_of, Left};
-ghost use Rattle.decoder.specs.Contracts.{Behind, StartIs, FrameIs, with_margin, keep_of, unfit, fitted_by, FitIs, FrameLeft};
+ghost use Rattle.decoder.specs.Promises.{Behind, StartIs, FrameIs, with_margin, keep_of, unfit, fitted_by, FitIs, FrameLeft};
 ghost use Rattle.decoder.specs.Begin.{moved_to, emptied_of, turned_of, BothCleared, BeginAsks, BeginIs};
 ghost use Rattle.decoder.specs.Frame.{NewestIs, BackIs, RunGiven, RunIs};
 ghost use Rattle.decoder.specs.Parts.{AdvanceIs};

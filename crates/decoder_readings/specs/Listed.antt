@@ -14,7 +14,7 @@ use Rattle.reading_list.specs.Outputs.{Outputs, places_in}
 use Rattle.reading_list.specs.Right.{ReadingsAre, ReadingsRight}
 use Rattle.decoder.specs.declared.Decoder.{Decoder}
 use Rattle.checks.specs.Fit.{Wide}
-use Rattle.decoder.specs.Contracts.{LeftOf, GapsLeft, holding}
+use Rattle.decoder.specs.Promises.{LeftOf, GapsLeft, holding}
 use Rattle.decoder.specs.Keep.{asked_is}
 use Rattle.decoder_reads.specs.Reads.{histories_wide, finals_long, best_asks}
 

@@ -5,7 +5,7 @@ ghost use Rattle.std.specs.Prelude.{◌-◌, ◌/◌, [], ◌∷◌, length};
 ghost use Rattle.places.specs.Places.{entry_places, kept_places};
 ghost use Rattle.reading_list.specs.Outputs.{outputs as listOutputs};
 ghost use Rattle.reading_list.specs.Scratch.{scratch as listScratch};
-ghost use Rattle.decoder.specs.Contracts.{ReadingsLeft, ReadingsIs};
+ghost use Rattle.decoder.specs.Promises.{ReadingsLeft, ReadingsIs};
 
 use decoder::Decoder;
 use reading_list::ReadingList;

@@ -15,7 +15,7 @@ use Rattle.readings.specs.Right.{AlternativesAsk, ListedIs, AlternativesRight}
 use Rattle.readings.specs.Known.{ranks_known}
 use Rattle.checks.specs.Fit.{Wide}
 use Rattle.decoder.specs.declared.Decoder.{Decoder}
-use Rattle.decoder.specs.Contracts.{LeftOf}
+use Rattle.decoder.specs.Promises.{LeftOf}
 
 module _ {tk : List ℕ} {sm : List Float} {rs : List ℕ} {ls : List ℤ} {d : Decoder} (L : LeftOf tk sm rs ls d) where
   pub read_asks : (1 - d.side ≤ 1) × (d.graph.states * 8 ≤ length tk) × (d.graph.states * 4 ≤ length sm)

@@ -5,7 +5,7 @@ ghost use Rattle.std.specs.Prelude.{◌≡◌, ◌/◌, [], ◌∷◌, length};
 ghost use Rattle.traceback.specs.Right.{parts};
 ghost use Rattle.readings.specs.Paths.{outputs};
 ghost use Rattle.readings.specs.Right.{scratch};
-ghost use Rattle.decoder.specs.Contracts.{ActiveLeft, FinalsLeft, RelativeLeft, AlternativesLeft, ActiveIs, RelativeCostIs, BestPathIs, AlternativesIs};
+ghost use Rattle.decoder.specs.Promises.{ActiveLeft, FinalsLeft, RelativeLeft, AlternativesLeft, ActiveIs, RelativeCostIs, BestPathIs, AlternativesIs};
 
 use decoder::Decoder;
 use readings::Listed;

@@ -30,11 +30,11 @@ module _ (il : List ℤ) (ws : List Float) (tp : List ℤ) (ls : List Float) (of
   abbrev pub look_total : ℕ → Float
   look_total i = get_or ws i 0f ⊕ off ⊖ get_or ls (by_label il tp i) 0f ⊕ cost
 
-  abbrev pub look_by_lem : (i : ℕ) → Float → Bool → Outcome Float
-  look_by_lem i next b = elim b as (λ z. Outcome Float) [ true ↦ (check 12 (tame (look_total i)) >>= λ u. ok (lower_by (Emitting off ad) (look_total i) next)) | false ↦ ok next ]
+  abbrev pub look_arc_by : (i : ℕ) → Float → Bool → Outcome Float
+  look_arc_by i next b = elim b as (λ z. Outcome Float) [ true ↦ (check 12 (tame (look_total i)) >>= λ u. ok (lower_by (Emitting off ad) (look_total i) next)) | false ↦ ok next ]
 
   abbrev pub look_step : (i : ℕ) → Float → Outcome Float
-  look_step i next = look_by_lem i next (nonzero (get_or il i (pos 0)))
+  look_step i next = look_arc_by i next (nonzero (get_or il i (pos 0)))
 
   -- n arcs from i on
   abbrev pub look_from : (n i : ℕ) → Float → Outcome Float
@@ -48,14 +48,14 @@ module _ (il : List ℤ) (ws : List Float) (tp : List ℤ) (ls : List Float) (of
     look_with c t = check 12 c >>= λ u. ok (lower_by (Emitting off ad) t next)
 
     pub look_skips : nonzero (get_or il i (pos 0)) ≡ false → ok next ≡ look_step i next
-    look_skips e = sym (ap (look_by_lem i next) e)
+    look_skips e = sym (ap (look_arc_by i next) e)
 
     module _ (e : nonzero (get_or il i (pos 0)) ≡ true) (t : Float) (is : t ≡ look_total i) where
       pub look_refuses : tame t ≡ false → refused 12 ≡ look_step i next
-      look_refuses d = sym (ap (look_by_lem i next) e ∙ ap₂ look_with (ap tame (sym is) ∙ d) (sym is))
+      look_refuses d = sym (ap (look_arc_by i next) e ∙ ap₂ look_with (ap tame (sym is) ∙ d) (sym is))
 
       pub look_lowers : tame t ≡ true → (x : Float) → x ≡ lower_by (Emitting off ad) t next → ok x ≡ look_step i next
-      look_lowers d x f = ap ok f ∙ sym (ap (look_by_lem i next) e ∙ ap₂ look_with (ap tame (sym is) ∙ d) (sym is))
+      look_lowers d x f = ap ok f ∙ sym (ap (look_arc_by i next) e ∙ ap₂ look_with (ap tame (sym is) ∙ d) (sym is))
 
   -- ---- the loop
 
@@ -96,7 +96,7 @@ module _ (g : Graph) (p : Part) (s : ℕ) (off ad cost : Float) (pdfs : g.tid2pd
     abbrev turn : Float → Bool → Outcome Float
     turn t b = elim b as (λ z. Outcome Float) [ true ↦ check 12 (tame t) >>= λ u. from n (suc i) (lower (emitting p.loglikes off ad) t next) | false ↦ from n (suc i) next ]
 
-    turns : (b : Bool) → turn (tot i) b ≡ (look_by_lem p.ilabels p.weights p.tid2pdf p.loglikes off ad cost i next b >>= λ x. steps n (suc i) x)
+    turns : (b : Bool) → turn (tot i) b ≡ (look_arc_by p.ilabels p.weights p.tid2pdf p.loglikes off ad cost i next b >>= λ x. steps n (suc i) x)
     turns false = rec next
     turns true = ap (λ (t : Float). turn t true) (total_is i) ∙ checked _ (tame (look_total p.ilabels p.weights p.tid2pdf p.loglikes off ad cost i))
 

@@ -14,7 +14,7 @@ use Rattle.model.specs.Arrive.{emitting, Here, Work as ModelWork}
 use Rattle.model.specs.Passes.{first_look, look, offset_of, emit_from, no_tokens, empty_work, emitting_pass}
 use Rattle.cutoff.specs.declared.Config.{Config}
 use Rattle.cutoff.specs.declared.Cutoff.{Cutoff}
-use Rattle.cutoff.specs.Costs.{config_of, CostIs, vacant_is, token_is_lem, Costs, Fine, BestIs, CutoffIs}
+use Rattle.cutoff.specs.Costs.{config_of, CostIs, vacant_is, token_itself, Costs, Fine, BestIs, CutoffIs}
 use Rattle.tokens.specs.Layout.{Cell, cell_at, held_at, cost_at, Cleared}
 use Rattle.records.specs.History.{History, tag}
 use Rattle.records.specs.Stands.{Stands}
@@ -151,7 +151,7 @@ module _ {g : Setting} {m : Lent} {qs eps : List ℕ} {T : Tables} {used seq : �
       of_place : (q : ℕ) (o : Option Token) → Shows G.h used (cell_at m.tokens m.sums q) o → CostIs (held_at m.tokens q) (cost_at m.sums q) o
       of_place q none (shows_none e) = vacant_is e
       of_place q (some t) (shows_token y e i) =
-          token_is_lem (λ z. absurd (let k = ap (λ (c : Cell). c.held) e in omega arith)) (sym (ap (λ (c : Cell). c.cost) e ∙ i.cost))
+          token_itself (λ z. absurd (let k = ap (λ (c : Cell). c.held) e in omega arith)) (sym (ap (λ (c : Cell). c.cost) e ∙ i.cost))
 
   module _ (c : Config) (cut : Cutoff) (cut_is : CutoffIs (config_of c) g.states G.done cut) where
     abbrev pub look_given : LookGiven T.offsets T.arcs.ilabels T.arcs.weights T.arcs.tid2pdf T.arcs.loglikes g.states cut

@@ -46,6 +46,6 @@ pub record EntryPut (hs ns : List ℕ) (xs : List Float) (hs' ns' : List ℕ) (x
 
 -- its words are there already; the places are full; or it is put
 pub data PutNew (hs ns : List ℕ) (xs : List Float) (hs' ns' : List ℕ) (xs' : List Float) (from to places : ℕ) (b : Entry) : ℕ → Type 0 where
-  was_there_lem : any (same_key b) (entries hs ns xs from (to - from)) ≡ true → hs' ≡ hs → ns' ≡ ns → xs' ≡ xs → PutNew hs ns xs hs' ns' xs' from to places b to
+  was_present : any (same_key b) (entries hs ns xs from (to - from)) ≡ true → hs' ≡ hs → ns' ≡ ns → xs' ≡ xs → PutNew hs ns xs hs' ns' xs' from to places b to
   was_full : any (same_key b) (entries hs ns xs from (to - from)) ≡ false → places < to → hs' ≡ hs → ns' ≡ ns → xs' ≡ xs → PutNew hs ns xs hs' ns' xs' from to places b 0
   was_put : any (same_key b) (entries hs ns xs from (to - from)) ≡ false → to ≤ places → EntryPut hs ns xs hs' ns' xs' (to - 1) b → PutNew hs ns xs hs' ns' xs' from to places b (to + 1)

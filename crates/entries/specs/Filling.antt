@@ -6,7 +6,7 @@ use Rattle.lists.specs.Parts.{ranges_alike}
 use Rattle.model.specs.Basics.{◌≺◌, ◌⊕◌}
 use Rattle.entries.specs.declared.Entry.{Entry}
 use Rattle.entries.specs.declared.Way.{Way}
-use Rattle.entries.specs.Entries.{no_entry, entry_at, entries, same_key, Room, EntryPut, PutNew, was_there_lem, was_full, was_put}
+use Rattle.entries.specs.Entries.{no_entry, entry_at, entries, same_key, Room, EntryPut, PutNew, was_present, was_full, was_put}
 use Rattle.entries.specs.Ways.{by_way, way_entries, WayAsks, Rising, WithinIs, own_next, NextAsks, PickAsks, picked, list_of, FillAsks, FillIs}
 use Rattle.entries.specs.Laws.{entry_in_lem, entry_none, entries_next, entries_many, way_many, way_at}
 use Rattle.entries.specs.Merging.{ToGo, go_none, go_seen, go_put, go_full, go_end, go_cap, rest, own_first_lem, kept_first_lem, rest_none, rising-take}
@@ -211,7 +211,7 @@ module _ (hs ns : List ℕ) (xs : List Float) (own kept : Way) (margin : Float) 
             -- unless the places are full the filling goes on
             fill_next : (r : ℕ) → (r ≢ 0) → length hs'' ≡ length hs' → length ns'' ≡ length ns' → length xs'' ≡ length xs' → PutNew hs' ns' xs' hs'' ns'' xs'' from to places b r
                 → FillTo hs'' ns'' xs'' (cond t (i + 1) i) (cond (not t) (j + 1) j) r
-            fill_next r nz u v w (was_there_lem k qh qn qx) =
+            fill_next r nz u v w (was_present k qh qn qx) =
                 record {
                   hashes-length = u ∙ F.hashes-length;
                   nexts-length = v ∙ F.nexts-length;
@@ -252,7 +252,7 @@ module _ (hs ns : List ℕ) (xs : List Float) (own kept : Way) (margin : Float) 
             fill_moved r nz u v w P i' j' q s = subst (λ (k : ℕ). FillTo hs'' ns'' xs'' k j' r) (sym q) (subst (λ (k : ℕ). FillTo hs'' ns'' xs'' (cond t (i + 1) i) k r) (sym s) (fill_next r nz u v w P))
 
             pub fill_full : (r : ℕ) → r ≡ 0 → PutNew hs' ns' xs' hs'' ns'' xs'' from to places b r → FillIs hs ns xs hs'' ns'' xs'' own kept margin cap from places 0
-            fill_full r z (was_there_lem k qh qn qx) = let y = A.begins in let x = F.low in absurd (omega arith)
+            fill_full r z (was_present k qh qn qx) = let y = A.begins in let x = F.low in absurd (omega arith)
             fill_full r z (was_full k l qh qn qx) =
                 record {
                   before = λ e l. (λ z. entry_at (qh z) (qn z) (qx z) e) ∙ F.before e l;

@@ -20,7 +20,7 @@ ghost use Rattle.shuffle.specs.Block.{shuffled, unshuffled, Rearranged};
 ghost use Rattle.courses.specs.Course.{course_at};
 ghost use Rattle.refusal_lines.specs.Answer.{WrittenLine, ReadLine};
 ghost use Rattle.decoder.specs.Represents.{Left};
-ghost use Rattle.decoder.specs.Contracts.{StartIs, FrameIs, keep_of, FitIs, FrameLeft, ActiveLeft, FinalsLeft, RelativeLeft, AlternativesLeft, ReadingsLeft, ActiveIs, RelativeCostIs, BestPathIs, AlternativesIs, ReadingsIs};
+ghost use Rattle.decoder.specs.Promises.{StartIs, FrameIs, keep_of, FitIs, FrameLeft, ActiveLeft, FinalsLeft, RelativeLeft, AlternativesLeft, ReadingsLeft, ActiveIs, RelativeCostIs, BestPathIs, AlternativesIs, ReadingsIs};
 ghost use Rattle.decoder.specs.Fit.{lengths_of};
 ghost use Rattle.c_answers.specs.Forms.{FormOf, answer_of, fitted_answer, built_verdict, path_of, listed_count, reading_count, silence_of, weighed_of, trailing_count, found_index, shuffled_number, course_numbers, refusal_told, line_count, line_verdict};
 

@@ -6,10 +6,10 @@ use Rattle.std.proofs.Math.Nat.{mod-add-mod}
 use Rattle.lists.specs.Tests.{case, either, lt_or_le, eq_or_not, and_both, or_neither, never}
 use Rattle.model.specs.Basics.{nonzero, unsigned}
 use Rattle.model.specs.Ints.{same_words_true, same_words_refl}
-use Rattle.model.specs.Path.{Path, empty_path, arc_on_lem, branch_on, is_link, word, with_word, words_back, same_words}
+use Rattle.model.specs.Path.{Path, empty_path, arc_onto, branch_on, is_link, word, with_word, words_back, same_words}
 use Rattle.model.specs.Hash.{hash_base, hash_word, hash_words, shift_past}
 use Rattle.model.specs.Readings.{join_number, words_to_join}
-use Rattle.records.specs.History.{History, no_history, link_on_lem, join_on, tag, history_of, plain, history_link, history_quiet}
+use Rattle.records.specs.History.{History, no_history, link_onto, join_on, tag, history_of, plain, history_link, history_quiet}
 use Rattle.records.specs.Layout.{Rec, Store, store, rec_at, is_link_rec, prev_at}
 use Rattle.records.specs.Stands.{Stands, top_by}
 use Rattle.joins.specs.Worth.{words_of, above_of}
@@ -93,7 +93,7 @@ module _ {rs : List ℕ} {ls : List ℤ} {gs : List Float} {n : ℕ} {h : ℕ �
 above_start : (x : History) → above_of (under 0) x ≡ x
 unfolding above_of under
 above_start no_history = refl
-above_start (link_on_lem n f w st t) = rw (le-ltb n 0 (omega arith), above_start t)
+above_start (link_onto n f w st t) = rw (le-ltb n 0 (omega arith), above_start t)
 above_start (join_on n f b k t) = rw (le-ltb n 0 (omega arith), above_start t)
 
 -- down to the start: all its words
@@ -103,13 +103,13 @@ whole_words p e = ap words_of (above_start (history_of p)) ∙ sym (words_are p 
 -- the numbers of a history are below f, and fall
 abbrev pub Falls : (f : ℕ) → History → Type 0
 Falls f no_history = Unit {0}
-Falls f (link_on_lem n fr w st t) = (n < f) × Falls n t
+Falls f (link_onto n fr w st t) = (n < f) × Falls n t
 Falls f (join_on n fr b k t) = (n < f) × Falls n t
 
 -- the newest join of a path has a number other than 0
 abbrev pub Numbered : Path → Type 0
 Numbered empty_path = Unit {0}
-Numbered (arc_on_lem s p) = Numbered p
+Numbered (arc_onto s p) = Numbered p
 Numbered (branch_on m k p) = 0 < m.number
 
 -- 0 for none, as in the model
@@ -120,7 +120,7 @@ tag_of (suc n) = suc (suc n)
 pub join_tag_lem : (p : Path) → Numbered p → join_tag (history_of p) ≡ tag_of (join_number p)
 unfolding join_tag history_of
 join_tag_lem empty_path d = refl
-join_tag_lem (arc_on_lem s p) d = case (either (is_link s && not s.beside)) (λ l. rw l (join_tag_lem p d)) (λ l. rw l (join_tag_lem p d))
+join_tag_lem (arc_onto s p) d = case (either (is_link s && not s.beside)) (λ l. rw l (join_tag_lem p d)) (λ l. rw l (join_tag_lem p d))
 join_tag_lem (branch_on m k p) d = go m.number d
   where
     go : (n : ℕ) → 0 < n → suc n ≡ tag_of n
@@ -130,10 +130,10 @@ join_tag_lem (branch_on m k p) d = go m.number d
 pub join_low : (f : ℕ) (x : History) → Falls f x → join_tag x ≤ f
 unfolding join_tag
 join_low f no_history d = omega arith
-join_low f (link_on_lem n fr w st t) d = let z = d.0 in omega (arith, join_low n t d.1)
+join_low f (link_onto n fr w st t) d = let z = d.0 in omega (arith, join_low n t d.1)
 join_low f (join_on n fr b k t) d = d.0
 
-link_words : (n fr : ℕ) (w st : ℤ) (t : History) → Falls n t → read_words true (link_on_lem n fr w st t) ≡ with_word w (read_words true t)
+link_words : (n fr : ℕ) (w st : ℤ) (t : History) → Falls n t → read_words true (link_onto n fr w st t) ≡ with_word w (read_words true t)
 unfolding join_tag above_of under words_of
 link_words n fr w st t d = rw (le-ltb n (join_tag t) (join_low n t d))
 
@@ -141,13 +141,13 @@ link_words n fr w st t d = rw (le-ltb n (join_tag t) (join_low n t d))
 pub join_words : (f : ℕ) (p : Path) → plain p ≡ true → Falls f (history_of p) → read_words true (history_of p) ≡ words_to_join p
 unfolding join_tag above_of under words_of history_of plain
 join_words f empty_path e d = refl
-join_words f (arc_on_lem s p) e d =
+join_words f (arc_onto s p) e d =
     let b = own_arc s p e in
     let g = plain_rest s p e in
     case (either (is_link s))
     (λ l.
     let i = history_link s p l b in
-    let d' : Falls f (link_on_lem s.number s.frame (word s) s.starts (history_of p)) = rw i at d in
+    let d' : Falls f (link_onto s.number s.frame (word s) s.starts (history_of p)) = rw i at d in
     rw i (link_words s.number s.frame (word s) s.starts (history_of p) d'.1 ∙ ap (with_word (word s)) (join_words s.number p g d'.1)))
     (λ l.
     let i = history_quiet s p l in

@@ -3,7 +3,7 @@ use Rattle.std.specs.Prelude.{◌≡◌, ℕ, suc, ◌+◌, ◌*◌, ◌%◌, �
 use Rattle.model.specs.Basics.{nonzero, unsigned}
 use Rattle.model.specs.Path.{same_words}
 use Rattle.model.specs.Hash.{hash_base, hash_words, shift_past}
-use Rattle.records.specs.History.{History, no_history, link_on_lem, join_on, tag}
+use Rattle.records.specs.History.{History, no_history, link_onto, join_on, tag}
 use Rattle.records.specs.Layout.{store, word_at, starts_at}
 use Rattle.records.specs.Stands.{Stands}
 use Rattle.joins.specs.Worth.{words_of, above_of}
@@ -13,7 +13,7 @@ use Rattle.histories.specs.declared.Hashed.{Hashed}
 -- one more than the newest join's number, 0 for none
 unfoldable pub join_tag : History → ℕ
 join_tag no_history = 0
-join_tag (link_on_lem n f w s t) = join_tag t
+join_tag (link_onto n f w s t) = join_tag t
 join_tag (join_on n f b k t) = suc n
 
 -- where the reading of a history ends, by the same measure

@@ -9,12 +9,12 @@ use borrow.Author.Tests.{eq-eqb, lt-ltb, le-ltb}
 use Rattle.lists.specs.Tests.{or_neither}
 use Rattle.model.specs.Basics.{◌≼◌, nonzero}
 use Rattle.model.specs.Path.{with_word}
-use Rattle.records.specs.History.{History, no_history, link_on_lem, join_on, tag}
+use Rattle.records.specs.History.{History, no_history, link_onto, join_on, tag}
 use Rattle.records.specs.Layout.{Store, Rec, rec_at, is_link_rec, prev_at, word_at}
 use Rattle.records.specs.Stands.{Stands, top, top_by, tag_upto, stands_less}
 use Rattle.joins.specs.Worth.{numbers, words_of, kept_within_of, above_of, among, apart_from, worth}
 use Rattle.joins.specs.Fresh.{numbers_top, skip, tag_each, absent}
-use Rattle.joins.specs.Walk.{join_within, under, part_to_lem, words_to, MetAt, FitsAbove}
+use Rattle.joins.specs.Walk.{join_within, under, part_up_to, words_to, MetAt, FitsAbove}
 
 -- ---- one record on top
 
@@ -49,20 +49,20 @@ module _ (r : Rec) (m : ℕ) (t q : History) where
 apart_self : (t : History) → apart_from t t ≡ no_history
 unfolding above_of among numbers
 apart_self no_history = refl
-apart_self (link_on_lem n f w st t) = simp (eq-eqb n n refl)
+apart_self (link_onto n f w st t) = simp (eq-eqb n n refl)
 apart_self (join_on n f b k t) = simp (eq-eqb n n refl)
 
 -- at once, where its newest number is below
 part_none : (k : ℕ) (t : History) → tag t ≤ k → above_of (under k) t ≡ no_history
 unfolding above_of under tag
 part_none k no_history l = refl
-part_none k (link_on_lem n f w st t) l = simp (lt-ltb n k l)
+part_none k (link_onto n f w st t) l = simp (lt-ltb n k l)
 part_none k (join_on n f b q t) l = simp (lt-ltb n k l)
 
 -- record m is where the two meet
 pub record MeetAt (h : ℕ → History) (won lost m : ℕ) : Type 0 where
-  pub won_part : apart_from (h lost) (h won) ≡ part_to_lem h m won
-  pub lost_part : apart_from (h won) (h lost) ≡ part_to_lem h m lost
+  pub won_part : apart_from (h lost) (h won) ≡ part_up_to h m won
+  pub lost_part : apart_from (h won) (h lost) ≡ part_up_to h m lost
 
 -- ---- one record of a store
 
@@ -80,7 +80,7 @@ module _ (s : Store) (n : ℕ) (h : ℕ → History) (ok : Stands s n h) where
     part_on : (stop : ℕ → Bool) → stop own ≡ false → above_of stop (h (suc k)) ≡ on (above_of stop (h (rec_at s k).prev))
     part_on stop e = rw (ok.each k l).is (above_top (rec_at s k) own (h (rec_at s k).prev) (h (rec_at s k).kept) stop e)
 
-    part_to : (m : ℕ) → m ≤ k → part_to_lem h m (suc k) ≡ on (part_to_lem h m (rec_at s k).prev)
+    part_to : (m : ℕ) → m ≤ k → part_up_to h m (suc k) ≡ on (part_up_to h m (rec_at s k).prev)
     unfolding under
     part_to m a = part_on (under (tag (h m))) (le-ltb own (tag (h m)) (own_above m a))
 
@@ -92,7 +92,7 @@ module _ (s : Store) (n : ℕ) (h : ℕ → History) (ok : Stands s n h) where
     apart_off b a = rw ((ok.each k l).is, numbers_top) (skip own (numbers (h (rec_at s k).prev)) (h b) (absent s n h ok b own (omega arith) (own_above b a)))
 
     words_on : (m : ℕ) → m ≤ k → words_to h m (suc k) ≡ with_word (rec_at s k).word (words_to h m (rec_at s k).prev)
-    words_on m a = ap words_of (part_to m a) ∙ words_top (rec_at s k) own (part_to_lem h m (rec_at s k).prev) (h (rec_at s k).kept)
+    words_on m a = ap words_of (part_to m a) ∙ words_top (rec_at s k) own (part_up_to h m (rec_at s k).prev) (h (rec_at s k).kept)
 
     kept_on : (slack : Float) (b : ℕ) → b ≤ k
         → kept_within_of slack (apart_from (h b) (h (suc k))) ≡ (join_within slack (rec_at s k) || kept_within_of slack (apart_from (h b) (h (rec_at s k).prev)))

@@ -5,7 +5,7 @@ use Prim.Native.Nat.{ℕ, zero, suc, ◌≤◌, ◌<◌}
 use Rattle.std.proofs.lemmas.Bool.{eqb-false}
 use Rattle.lists.specs.Tests.{or_neither}
 use Rattle.model.specs.Path.{memℕ}
-use Rattle.records.specs.History.{History, no_history, link_on_lem, join_on, tag}
+use Rattle.records.specs.History.{History, no_history, link_onto, join_on, tag}
 use Rattle.records.specs.Layout.{Store, Rec, rec_at, is_link_rec}
 use Rattle.records.specs.Stands.{Stands, top, top_by, tag_top}
 use Rattle.joins.specs.Worth.{numbers, above_of, among}
@@ -22,7 +22,7 @@ numbers_top r m t q = go (is_link_rec r)
 pub skip : (v : ℕ) (ns : List ℕ) (t : History) → among (numbers t) v ≡ false → above_of (among (v ∷ ns)) t ≡ above_of (among ns) t
 unfolding above_of among numbers
 skip v ns no_history e = refl
-skip v ns (link_on_lem m f w st t) e =
+skip v ns (link_onto m f w st t) e =
     let d = or_neither (eqb v m) (memℕ v (numbers t)) e in
     simp (ne_eqb m v (λ q. eqb-false v m d.0 (sym q)), skip v ns t d.1)
 skip v ns (join_on m f b k t) e =

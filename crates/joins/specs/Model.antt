@@ -6,7 +6,7 @@ use Rattle.std.proofs.Math.Bool.{true, false}
 use Rattle.std.proofs.Math.Option.{Option, none, some}
 use borrow.Author.Tests.{eq-eqb, ne_eqb}
 use Rattle.model.specs.Basics.{◌⊖◌, ok, refused}
-use Rattle.model.specs.Path.{Step, Path, empty_path, arc_on_lem, branch_on, Token, word, worth_keeping}
+use Rattle.model.specs.Path.{Step, Path, empty_path, arc_onto, branch_on, Token, word, worth_keeping}
 use Rattle.model.specs.Arrive.{Here, joined, keeps, keep}
 use Rattle.tokens.specs.declared.Token
 use Rattle.records.specs.History.{History, join_on, tag, history_of, plain, beside_word, beside_starts, history_beside}
@@ -36,7 +36,7 @@ pub record Loses (h : ℕ → History) (won lost : Path) (wl ll : ℕ) (over : �
 none_beside : (p : Path) → plain p ≡ true → (beside_word p ≡ pos 0) × (beside_starts p ≡ pos 0)
 unfolding beside_word beside_starts
 none_beside empty_path e = (refl, refl)
-none_beside (arc_on_lem s p) e = let b = own_arc s p e in (rw b, rw b)
+none_beside (arc_onto s p) e = let b = own_arc s p e in (rw b, rw b)
 none_beside (branch_on m k p) e = (refl, refl)
 
 module _ {h : ℕ → History} {won : Path} {wl ll : ℕ} (a : plain won ≡ true) (e : h wl ≡ history_of won) where
@@ -48,7 +48,7 @@ module _ {h : ℕ → History} {won : Path} {wl ll : ℕ} (a : plain won ≡ tru
 
   -- an arrival, whose last arc has a fresh number and is held beside the join
   pub arrival_loses : {s : Store} {n : ℕ} {over : ℤ} {starts : ℕ} → Stands s n h → wl ≤ n → (arc : Step) (source : Path) → arc.beside ≡ true → tag (h n) ≤ arc.number
-      → word arc ≡ over → arc.starts ≡ pos starts → plain source ≡ true → h ll ≡ history_of source → Loses h won (arc_on_lem arc source) wl ll over starts
+      → word arc ≡ over → arc.starts ≡ pos starts → plain source ≡ true → h ll ≡ history_of source → Loses h won (arc_onto arc source) wl ll over starts
   unfolding beside_word beside_starts
   arrival_loses {s} {n} sd l arc source q m wd st b f =
       record {

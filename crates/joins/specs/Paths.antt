@@ -5,7 +5,7 @@ use Rattle.std.proofs.Common.{ap, ◌∙◌, arith}
 use borrow.Author.Tests.{not-true}
 use Rattle.lists.specs.Tests.{case, either, or_neither, and_both}
 use Rattle.model.specs.Basics.{nonzero}
-use Rattle.model.specs.Path.{Step, Path, empty_path, arc_on_lem, branch_on, is_link, word, links, words_back, memℕ, above, kept_within, worth_keeping}
+use Rattle.model.specs.Path.{Step, Path, empty_path, arc_onto, branch_on, is_link, word, links, words_back, memℕ, above, kept_within, worth_keeping}
 use Rattle.records.specs.History.{History, tag, history_of, plain, history_link, history_quiet}
 use Rattle.records.specs.Layout.{Store}
 use Rattle.records.specs.Stands.{Stands, tag_upto}
@@ -13,7 +13,7 @@ use Rattle.joins.specs.Worth.{numbers, words_of, kept_within_of, above_of, among
 use Rattle.joins.specs.Fresh.{skip, absent}
 
 -- an arc of a plain path
-module _ (s : Step) (p : Path) (e : plain (arc_on_lem s p) ≡ true) where
+module _ (s : Step) (p : Path) (e : plain (arc_onto s p) ≡ true) where
   pub own_arc : s.beside ≡ false
   unfolding plain
   own_arc = not-true s.beside (and_both (not s.beside) (plain p) e).0
@@ -25,7 +25,7 @@ module _ (s : Step) (p : Path) (e : plain (arc_on_lem s p) ≡ true) where
 pub links_are : (p : Path) → plain p ≡ true → links p ≡ numbers (history_of p)
 unfolding links numbers history_of plain
 links_are empty_path e = refl
-links_are (arc_on_lem s p) e =
+links_are (arc_onto s p) e =
     let b = own_arc s p e in
     let g = links_are p (plain_rest s p e) in
     case (either (is_link s)) (λ l. rw (history_link s p l b, l, g)) (λ l. rw (history_quiet s p l, l, g))
@@ -37,7 +37,7 @@ module _ (ns : List ℕ) where
   above_plain : (p : Path) → plain p ≡ true → plain (above ns p) ≡ true
   unfolding above plain
   above_plain empty_path e = refl
-  above_plain (arc_on_lem s p) e =
+  above_plain (arc_onto s p) e =
       let b = own_arc s p e in
       let g = above_plain p (plain_rest s p e) in
       case (either (is_link s && memℕ s.number ns)) (λ q. rw q) (λ q. rw (q, b, g))
@@ -46,7 +46,7 @@ module _ (ns : List ℕ) where
   above_is : (p : Path) → plain p ≡ true → history_of (above ns p) ≡ above_of (among ns) (history_of p)
   unfolding above above_of among history_of plain
   above_is empty_path e = refl
-  above_is (arc_on_lem s p) e =
+  above_is (arc_onto s p) e =
       let b = own_arc s p e in
       let g = above_is p (plain_rest s p e) in
       case (either (is_link s))
@@ -59,7 +59,7 @@ module _ (ns : List ℕ) where
 pub words_are : (p : Path) → plain p ≡ true → words_back p ≡ words_of (history_of p)
 unfolding words_back words_of history_of plain
 words_are empty_path e = refl
-words_are (arc_on_lem s p) e =
+words_are (arc_onto s p) e =
     let b = own_arc s p e in
     let g = words_are p (plain_rest s p e) in
     case (either (is_link s)) (λ l. rw (history_link s p l b, g)) (λ l. rw (history_quiet s p l, (or_neither (nonzero (word s)) (nonzero s.starts) l).0, g))
@@ -68,7 +68,7 @@ words_are (branch_on m k p) e = words_are p e
 kept_are : (slack : Float) (p : Path) → plain p ≡ true → kept_within slack p ≡ kept_within_of slack (history_of p)
 unfolding kept_within kept_within_of history_of plain
 kept_are slack empty_path e = refl
-kept_are slack (arc_on_lem s p) e =
+kept_are slack (arc_onto s p) e =
     let b = own_arc s p e in
     let g = kept_are slack p (plain_rest s p e) in
     case (either (is_link s)) (λ l. rw (history_link s p l b, g)) (λ l. rw (history_quiet s p l, g))
@@ -91,20 +91,20 @@ module _ (won lost : Path) (slack : Float) (a : plain won ≡ true) (b : plain l
 
   module _ (s : Step) (d : memℕ s.number (links won) ≡ false) where
     -- the winner's part is the same with a fresh arc on the loser
-    won_part : words_back (above (links (arc_on_lem s lost)) won) ≡ words_of (apart_from (history_of lost) (history_of won))
+    won_part : words_back (above (links (arc_onto s lost)) won) ≡ words_of (apart_from (history_of lost) (history_of won))
     unfolding links among
     won_part =
         let e = links_are lost b in
-        words_above (links (arc_on_lem s lost)) won a ∙ case (either (is_link s))
+        words_above (links (arc_onto s lost)) won a ∙ case (either (is_link s))
         (λ l. rw (l, e) (ap words_of (skip s.number (numbers (history_of lost)) (history_of won) (rw (links_are won a) at d))))
         (λ l. rw (l, e))
 
-    lost_part : above (links won) (arc_on_lem s lost) ≡ arc_on_lem s (above (links won) lost)
+    lost_part : above (links won) (arc_onto s lost) ≡ arc_onto s (above (links won) lost)
     unfolding above
     lost_part = case (either (is_link s)) (λ l. rw (l, d)) (λ l. rw l)
 
     -- an arrival that lost, its last arc held beside the join
-    pub worth_beside : worth_keeping won (arc_on_lem s lost) slack ≡ worth (history_of won) (history_of lost) (word s) slack
+    pub worth_beside : worth_keeping won (arc_onto s lost) slack ≡ worth (history_of won) (history_of lost) (word s) slack
     unfolding worth_keeping worth words_back kept_within
     worth_beside = rw (won_part, lost_part, words_above (links won) lost b, kept_above (links won) lost b slack, links_are won a)
 

@@ -18,11 +18,11 @@ unfoldable pub under : ℕ → ℕ → Bool
 under k n = ltb n k
 
 -- the part of record r's history above record m: the model's numbers ascend with the records'
-abbrev pub part_to_lem : (ℕ → History) → (m r : ℕ) → History
-part_to_lem h m r = above_of (under (tag (h m))) (h r)
+abbrev pub part_up_to : (ℕ → History) → (m r : ℕ) → History
+part_up_to h m r = above_of (under (tag (h m))) (h r)
 
 abbrev pub words_to : (ℕ → History) → (m r : ℕ) → List ℤ
-words_to h m r = words_of (part_to_lem h m r)
+words_to h m r = words_of (part_up_to h m r)
 
 -- what the comparison of words asks of the first n records
 pub record Chains (rs : List ℕ) (ls : List ℤ) (n : ℕ) : Type 0 where

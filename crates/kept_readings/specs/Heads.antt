@@ -36,13 +36,13 @@ kept_by c counts above e b =
     }
 
 -- of the n entries from this one on
-abbrev pub kept_from_lem : (hs ns : List ℕ) → List Float → Candidate → (counts : Bool) → Hashed → (from n : ℕ) → List KeptReading
-kept_from_lem hs ns xs c counts above from n = map (λ (e : ℕ). kept_by c counts above e (entry_at hs ns xs e)) (range from n)
+abbrev pub kept_starts_from : (hs ns : List ℕ) → List Float → Candidate → (counts : Bool) → Hashed → (from n : ℕ) → List KeptReading
+kept_starts_from hs ns xs c counts above from n = map (λ (e : ℕ). kept_by c counts above e (entry_at hs ns xs e)) (range from n)
 
 -- the first of a list is the token's own path, which is no kept reading
 abbrev pub kept_under : (hs ns : List ℕ) → List Float → Best → (counts : Bool) → (bound : Float) → Hashed → (first count : ℕ) → List KeptReading
 kept_under hs ns xs Nobody counts bound above first count = []
-kept_under hs ns xs (Token c) counts bound above first count = within bound (kept_from_lem hs ns xs c counts above (first + 1) (count - 1))
+kept_under hs ns xs (Token c) counts bound above first count = within bound (kept_starts_from hs ns xs c counts above (first + 1) (count - 1))
 
 -- the entries of a list have places, and no number of words passes u32
 pub record EntriesAsk (hs ns : List ℕ) (xs : List Float) (first count len : ℕ) : Type 0 where

@@ -7,13 +7,13 @@ use Rattle.model.specs.Basics.{◌≺◌, ◌≼◌}
 use Rattle.kept_readings.specs.declared.KeptReading.{KeptReading}
 
 -- in place i
-abbrev pub kept_in_lem : (hs ns : List ℕ) → List Float → (i : ℕ) → KeptReading
-kept_in_lem hs ns xs i =
+abbrev pub kept_read_in : (hs ns : List ℕ) → List Float → (i : ℕ) → KeptReading
+kept_read_in hs ns xs i =
     record { hash = slice_index hs i; len = slice_index ns (i * 4); state = slice_index ns (i * 4 + 1); entry = slice_index ns (i * 4 + 2); seq = slice_index ns (i * 4 + 3); rank = slice_index_or xs (i * 2) nan; cost = slice_index_or xs (i * 2 + 1) nan }
 
 -- the first n
 abbrev pub kept_list : (hs ns : List ℕ) → List Float → (n : ℕ) → List KeptReading
-kept_list hs ns xs n = map (kept_in_lem hs ns xs) (range 0 n)
+kept_list hs ns xs n = map (kept_read_in hs ns xs) (range 0 n)
 
 -- places for n
 pub record Room (hs ns : List ℕ) (xs : List Float) (n : ℕ) : Type 0 where
@@ -35,14 +35,14 @@ sooner_of a b = cond (sooner_kept a b) a b
 
 -- place i is k's; every other is as it was
 pub record KeptPut (hs ns : List ℕ) (xs : List Float) (hs' ns' : List ℕ) (xs' : List Float) (i : ℕ) (k : KeptReading) : Type 0 where
-  pub is : kept_in_lem hs' ns' xs' i ≡ k
-  pub others : (j : ℕ) → (j ≢ i) → kept_in_lem hs' ns' xs' j ≡ kept_in_lem hs ns xs j
+  pub is : kept_read_in hs' ns' xs' i ≡ k
+  pub others : (j : ℕ) → (j ≢ i) → kept_read_in hs' ns' xs' j ≡ kept_read_in hs ns xs j
 
 -- the first place of k's words, n for none
 pub record FoundAt (hs ns : List ℕ) (xs : List Float) (n : ℕ) (k : KeptReading) (r : ℕ) : Type 0 where
   pub few : r ≤ n
-  pub before : (i : ℕ) → i < r → same_kept k (kept_in_lem hs ns xs i) ≡ false
-  pub found : r < n → same_kept k (kept_in_lem hs ns xs r) ≡ true
+  pub before : (i : ℕ) → i < r → same_kept k (kept_read_in hs ns xs i) ≡ false
+  pub found : r < n → same_kept k (kept_read_in hs ns xs r) ≡ true
 
 module _ {A : Type 0} (same sooner : A → A → Bool) where
   -- one more: it takes the place of the one with its words where it comes sooner, and stands last where there is none

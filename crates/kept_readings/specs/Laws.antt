@@ -5,7 +5,7 @@ use Rattle.std.specs.Float.{nan}
 use Rattle.lists.specs.Lists.{range}
 use Rattle.model.specs.Basics.{◌≼◌}
 use Rattle.kept_readings.specs.declared.KeptReading.{KeptReading}
-use Rattle.kept_readings.specs.Kept.{kept_in_lem, kept_list, Room, same_kept, sooner_kept, sooner_of, KeptPut, FoundAt, add_kept, Added, are_added, are_more, within}
+use Rattle.kept_readings.specs.Kept.{kept_read_in, kept_list, Room, same_kept, sooner_kept, sooner_of, KeptPut, FoundAt, add_kept, Added, are_added, are_more, within}
 use Rattle.kept_readings.specs.Adding.{all-length, all_then, add_new, add_same}
 
 -- ---- a kept reading put in its place
@@ -66,15 +66,15 @@ module _ {hs ns : List ℕ} {xs : List Float} {hs' ns' : List ℕ} {xs' : List F
   pub put_sooner : sooner_kept k x ≡ true → KeptPut hs ns xs hs' ns' xs' i k → KeptPut hs ns xs hs' ns' xs' i (sooner_of k x)
   put_sooner t P = subst (λ (b : Bool). KeptPut hs ns xs hs' ns' xs' i (cond b k x)) (sym t) P
 
-pub left_there : {hs ns : List ℕ} {xs : List Float} {i : ℕ} (k : KeptReading) → sooner_kept k (kept_in_lem hs ns xs i) ≡ false → KeptPut hs ns xs hs ns xs i (sooner_of k (kept_in_lem hs ns xs i))
-left_there {hs} {ns} {xs} {i} k f = subst (λ (b : Bool). KeptPut hs ns xs hs ns xs i (cond b k (kept_in_lem hs ns xs i))) (sym f) (record { is = refl; others = λ j d. refl })
+pub left_there : {hs ns : List ℕ} {xs : List Float} {i : ℕ} (k : KeptReading) → sooner_kept k (kept_read_in hs ns xs i) ≡ false → KeptPut hs ns xs hs ns xs i (sooner_of k (kept_read_in hs ns xs i))
+left_there {hs} {ns} {xs} {i} k f = subst (λ (b : Bool). KeptPut hs ns xs hs ns xs i (cond b k (kept_read_in hs ns xs i))) (sym f) (record { is = refl; others = λ j d. refl })
 
 -- ---- one more
 
 pub list_length : (hs ns : List ℕ) (xs : List Float) (n : ℕ) → length (kept_list hs ns xs n) ≡ n
 list_length hs ns xs n = go 0 n
   where
-    go : (a n : ℕ) → length (map (kept_in_lem hs ns xs) (range a n)) ≡ n
+    go : (a n : ℕ) → length (map (kept_read_in hs ns xs) (range a n)) ≡ n
     go a zero = refl
     go a (suc n) = ap suc (go (suc a) n)
 
@@ -83,12 +83,12 @@ length_last [] k = refl
 length_last (y ∷ ys) k = let z = length_last ys k in omega arith
 
 module _ {hs ns : List ℕ} {xs : List Float} {n : ℕ} {k : KeptReading} {p : ℕ} (F : FoundAt hs ns xs n k p) {places : ℕ} (few : n ≤ places) where
-  pub added_there : {hs' ns' : List ℕ} {xs' : List Float} → p < n → KeptPut hs ns xs hs' ns' xs' p (sooner_of k (kept_in_lem hs ns xs p)) → Added hs ns xs n (k ∷ []) places hs' ns' xs' n
+  pub added_there : {hs' ns' : List ℕ} {xs' : List Float} → p < n → KeptPut hs ns xs hs' ns' xs' p (sooner_of k (kept_read_in hs ns xs p)) → Added hs ns xs n (k ∷ []) places hs' ns' xs' n
   added_there {hs'} {ns'} {xs'} l P =
-      are_added few (sym (add_same same_kept sooner_kept k (kept_in_lem hs ns xs) (kept_in_lem hs' ns' xs') 0 n p (omega arith) (omega arith) (λ i a u. F.before i u) (F.found l) P.is P.others))
+      are_added few (sym (add_same same_kept sooner_kept k (kept_read_in hs ns xs) (kept_read_in hs' ns' xs') 0 n p (omega arith) (omega arith) (λ i a u. F.before i u) (F.found l) P.is P.others))
 
   is_new : n ≤ p → add_kept (kept_list hs ns xs n) (k ∷ []) ≡ kept_list hs ns xs n ++ k ∷ []
-  is_new l = add_new same_kept sooner_kept k (kept_in_lem hs ns xs) 0 n (λ i a u. F.before i (omega arith))
+  is_new l = add_new same_kept sooner_kept k (kept_read_in hs ns xs) 0 n (λ i a u. F.before i (omega arith))
 
   pub added_full : {hs' ns' : List ℕ} {xs' : List Float} → n ≤ p → n ≡ places → Added hs ns xs n (k ∷ []) places hs' ns' xs' (n + 1)
   added_full l e =
@@ -98,10 +98,10 @@ module _ {hs ns : List ℕ} {xs : List Float} {n : ℕ} {k : KeptReading} {p : �
   pub added_new : {hs' ns' : List ℕ} {xs' : List Float} → n ≤ p → (n ≢ places) → KeptPut hs ns xs hs' ns' xs' n k → Added hs ns xs n (k ∷ []) places hs' ns' xs' (n + 1)
   added_new {hs'} {ns'} {xs'} l d P = are_added (omega arith) (last_of 0 n n (omega arith) (λ i a u. P.others i (λ e. omega arith)) P.is ∙ sym (is_new l))
     where
-      last_of : (a m z : ℕ) → a + m ≡ z → ((i : ℕ) → a ≤ i → i < z → kept_in_lem hs' ns' xs' i ≡ kept_in_lem hs ns xs i) → kept_in_lem hs' ns' xs' z ≡ k → map (kept_in_lem hs' ns' xs') (range a (m + 1)) ≡ map (kept_in_lem hs ns xs) (range a m) ++ k ∷ []
-      last_of a zero z q o e = ap (λ (x : KeptReading). x ∷ []) (subst (λ (z : ℕ). kept_in_lem hs' ns' xs' z ≡ k) (let w : z ≡ a = omega arith in w) e)
+      last_of : (a m z : ℕ) → a + m ≡ z → ((i : ℕ) → a ≤ i → i < z → kept_read_in hs' ns' xs' i ≡ kept_read_in hs ns xs i) → kept_read_in hs' ns' xs' z ≡ k → map (kept_read_in hs' ns' xs') (range a (m + 1)) ≡ map (kept_read_in hs ns xs) (range a m) ++ k ∷ []
+      last_of a zero z q o e = ap (λ (x : KeptReading). x ∷ []) (subst (λ (z : ℕ). kept_read_in hs' ns' xs' z ≡ k) (let w : z ≡ a = omega arith in w) e)
       last_of a (suc m) z q o e =
-          ap (λ (z : ℕ). map (kept_in_lem hs' ns' xs') (range a z)) (let e : suc m + 1 ≡ suc (m + 1) = omega arith in e)
+          ap (λ (z : ℕ). map (kept_read_in hs' ns' xs') (range a z)) (let e : suc m + 1 ≡ suc (m + 1) = omega arith in e)
           ∙ ap₂ (λ (x : KeptReading) (l : List KeptReading). x ∷ l) (o a (omega arith) (omega arith)) (last_of (suc a) m z (omega arith) (λ i l u. o i (omega arith) u) e)
 
 -- ---- more and more

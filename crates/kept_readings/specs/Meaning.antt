@@ -40,7 +40,7 @@ use Rattle.below.specs.Paths.{below_history}
 use Rattle.below.specs.Down.{words_on, below_to}
 use Rattle.kept_readings.specs.declared.KeptReading.{KeptReading}
 use Rattle.kept_readings.specs.Kept.{ranks_below}
-use Rattle.kept_readings.specs.Heads.{kept_by, kept_from_lem, kept_under, HeadsKept, no_heads, head_on}
+use Rattle.kept_readings.specs.Heads.{kept_by, kept_starts_from, kept_under, HeadsKept, no_heads, head_on}
 
 -- the kept reading of the definition that one stands for, where states have these ranked tokens, and entries stand for these paths
 abbrev pub as_kept : (ℕ → Ranked) → List Below → KeptReading → Kept
@@ -195,7 +195,7 @@ module _ {rs : List ℕ} {ls : List ℤ} {used : ℕ} (gs : List Float) (h : ℕ
           let a = first_at lists join in
           let k = count_at lists join in
           ap (λ (x : Best). map (as_kept rank_of L.bs) (kept_under hs ns xs x counts bound above a k)) S.is
-          ∙ keep-map (as_kept rank_of L.bs) (ranks_below bound) (kept_within bound) (λ x. refl) (kept_from_lem hs ns xs c counts above (a + 1) (k - 1))
+          ∙ keep-map (as_kept rank_of L.bs) (ranks_below bound) (kept_within bound) (λ x. refl) (kept_starts_from hs ns xs c counts above (a + 1) (k - 1))
           ∙ ap (keep_if (kept_within bound))
           (map-map (as_kept rank_of L.bs) (λ (e : ℕ). kept_by c counts above e (entry_at hs ns xs e)) (range (a + 1) (k - 1))
           ∙ map_range (λ (e : ℕ). as_kept rank_of L.bs (kept_by c counts above e (entry_at hs ns xs e))) (λ (e : ℕ). kept_of counts (rank_of s) (with_words_on ws (stands_for L.bs e))) (a + 1) (k - 1)

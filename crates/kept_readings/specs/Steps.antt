@@ -18,7 +18,7 @@ use Rattle.entries.specs.Entries.{entry_at}
 use Rattle.below.specs.Stored.{first_at, count_at}
 use Rattle.kept_readings.specs.declared.KeptReading.{KeptReading}
 use Rattle.kept_readings.specs.Kept.{Room, Added, ranks_below, within}
-use Rattle.kept_readings.specs.Heads.{kept_by, kept_from_lem, kept_under, EntriesAsk, HeadAsks, HeadKept, HeadAdded, HeadsKept, no_heads, head_on, FillIs, may_rank, IsHeadIs, KeptIf, not_kept, is_kept}
+use Rattle.kept_readings.specs.Heads.{kept_by, kept_starts_from, kept_under, EntriesAsk, HeadAsks, HeadKept, HeadAdded, HeadsKept, no_heads, head_on, FillIs, may_rank, IsHeadIs, KeptIf, not_kept, is_kept}
 use Rattle.kept_readings.specs.Laws.{added_none, added_then, added_short}
 
 -- the slices keep their lengths
@@ -52,7 +52,7 @@ module _ {A : Type 0} (p : A → Bool) (f : ℕ → A) where
 
 module _ (hs ns : List ℕ) (xs : List Float) (c : Candidate) (counts : Bool) (above : Hashed) (bound : Float) (first count : ℕ) (khs kns : List ℕ) (kxs : List Float) (n places : ℕ) where
   abbrev some_below : ℕ → List KeptReading
-  some_below k = within bound (kept_from_lem hs ns xs c counts above (first + 1) k)
+  some_below k = within bound (kept_starts_from hs ns xs c counts above (first + 1) k)
 
   -- those before the i-th are added
   pub record BelowTo (i : ℕ) (khs' kns' : List ℕ) (kxs' : List Float) (m : ℕ) : Type 0 where
@@ -90,7 +90,7 @@ module _ (hs ns : List ℕ) (xs : List Float) (c : Candidate) (counts : Bool) (a
       below_short f =
           subst (λ (ks : List KeptReading). Added khs kns kxs n ks places khs'' kns'' kxs'' r)
           (kept_parts (ranks_below bound) (λ (e : ℕ). kept_by c counts above e (entry_at hs ns xs e)) (first + 1) i (first + 1 + i) (count - 1 - i) refl ∙ ap some_below (let e : i + (count - 1 - i) ≡ count - 1 = omega arith in e))
-          (added_short (within bound (kept_from_lem hs ns xs c counts above (first + 1 + i) (count - 1 - i))) f one_more)
+          (added_short (within bound (kept_starts_from hs ns xs c counts above (first + 1 + i) (count - 1 - i))) f one_more)
 
 -- ---- one head
 
@@ -121,11 +121,11 @@ module _ {tk : List ℕ} {sm fs : List Float} {rs : List ℕ} {ls : List ℤ} {b
     head_nobody e l = head_of Nobody e (added_none l)
 
     pub head_token : {c : Candidate} {khs' kns' : List ℕ} {kxs' : List Float} {r : ℕ} → candidate_at tk sm fs b s counts ≡ Token c → (f k : ℕ) → f ≡ first_at lists join → k ≡ count_at lists join
-        → Added khs kns kxs n (within bound (kept_from_lem hs ns xs c counts above (f + 1) (k - 1))) places khs' kns' kxs' r → HeadAdded tk sm fs rs ls b used counts bound lists hs ns xs s khs kns kxs n places khs' kns' kxs' r
+        → Added khs kns kxs n (within bound (kept_starts_from hs ns xs c counts above (f + 1) (k - 1))) places khs' kns' kxs' r → HeadAdded tk sm fs rs ls b used counts bound lists hs ns xs s khs kns kxs n places khs' kns' kxs' r
     head_token {c} {khs'} {kns'} {kxs'} {r} e f k u v A =
         head_of (Token c) e
-        (subst (λ (x : ℕ). Added khs kns kxs n (within bound (kept_from_lem hs ns xs c counts above (x + 1) (count_at lists join - 1))) places khs' kns' kxs' r) u
-        (subst (λ (x : ℕ). Added khs kns kxs n (within bound (kept_from_lem hs ns xs c counts above (f + 1) (x - 1))) places khs' kns' kxs' r) v A))
+        (subst (λ (x : ℕ). Added khs kns kxs n (within bound (kept_starts_from hs ns xs c counts above (x + 1) (count_at lists join - 1))) places khs' kns' kxs' r) u
+        (subst (λ (x : ℕ). Added khs kns kxs n (within bound (kept_starts_from hs ns xs c counts above (f + 1) (x - 1))) places khs' kns' kxs' r) v A))
 
 -- ---- over the heads
 

@@ -29,7 +29,7 @@ use Rattle.below.specs.Filling.{Listed}
 use Rattle.kept_readings.specs.declared.KeptReading.{KeptReading}
 use Rattle.kept_readings.specs.Kept.{kept_list, same_kept, sooner_kept, all_from, all_of, Added, are_added, are_more, ranks_below, within}
 use Rattle.kept_readings.specs.Adding.{all-length, all_then}
-use Rattle.kept_readings.specs.Heads.{kept_by, kept_from_lem, kept_under, HeadsKept, no_heads, head_on, FillIs}
+use Rattle.kept_readings.specs.Heads.{kept_by, kept_starts_from, kept_under, HeadsKept, no_heads, head_on, FillIs}
 use Rattle.kept_readings.specs.Bests.{Orders, all_perm, all_map}
 use Rattle.kept_readings.specs.Meaning.{as_kept, kept_within, Head, stood, ListsInside, keep_both, map_both, heads_kept}
 
@@ -123,8 +123,8 @@ module _ {rs : List ℕ} {ls : List ℤ} {used : ℕ} (gs : List Float) (h : ℕ
   under_seq s H above first count k m =
       let S = stood w g q long counts s H in
       let c = S.candidate in
-      let i : k ∈ within bound (kept_from_lem hs ns xs c counts above (first + 1) (count - 1)) = subst (λ (x : Best). k ∈ kept_under hs ns xs x counts bound above first count) S.is m in
-      let (z, j, u) = map_from (λ (z : ℕ). kept_by c counts above z (entry_at hs ns xs z)) (range (first + 1) (count - 1)) k (keep_from (ranks_below bound) (kept_from_lem hs ns xs c counts above (first + 1) (count - 1)) k i) in
+      let i : k ∈ within bound (kept_starts_from hs ns xs c counts above (first + 1) (count - 1)) = subst (λ (x : Best). k ∈ kept_under hs ns xs x counts bound above first count) S.is m in
+      let (z, j, u) = map_from (λ (z : ℕ). kept_by c counts above z (entry_at hs ns xs z)) (range (first + 1) (count - 1)) k (keep_from (ranks_below bound) (kept_starts_from hs ns xs c counts above (first + 1) (count - 1)) k i) in
       subst SeqIs (sym u) (S.seq ∙ ap (λ (t : ℕ). (rank_of t).token.seq) (sym S.head.state))
 
   heads_seq : (ss : List ℕ) (ks : List KeptReading) → ((s : ℕ) → s ∈ ss → Head g tk b n counts ts s × (link_at tk b s ∈ links)) → HeadsKept tk sm fs rs ls b used counts bound lists hs ns xs ss ks → (k : KeptReading) → k ∈ ks → SeqIs k

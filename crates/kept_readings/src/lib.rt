@@ -7,8 +7,8 @@ ghost use Rattle.model.specs.Basics.{◌⊖◌, ◌⊗◌, 0f, 1f};
 ghost use Rattle.model.specs.Reads.{graph_scale};
 ghost use Rattle.joins.specs.Walk.{Chains};
 ghost use Rattle.entries.specs.Entries.{entry_at, Room as EntryRoom};
-ghost use Rattle.kept_readings.specs.Kept.{kept_in_lem, Room, same_kept, sooner_kept, sooner_of, KeptPut, FoundAt, Added, within};
-ghost use Rattle.kept_readings.specs.Heads.{kept_by, kept_from_lem, EntriesAsk, HeadAsks, HeadAdded, FillAsks, FillIs, best_within, may_rank, StateAsks, IsHeadIs, KeptIf, HeadsAsk, HeadsAre};
+ghost use Rattle.kept_readings.specs.Kept.{kept_read_in, Room, same_kept, sooner_kept, sooner_of, KeptPut, FoundAt, Added, within};
+ghost use Rattle.kept_readings.specs.Heads.{kept_by, kept_starts_from, EntriesAsk, HeadAsks, HeadAdded, FillAsks, FillIs, best_within, may_rank, StateAsks, IsHeadIs, KeptIf, HeadsAsk, HeadsAre};
 
 use entries::Entry;
 use histories::Hashed;
@@ -28,7 +28,7 @@ pub struct KeptReading {
 
 pub fn kept_at(hashes: &[u64], links: &[u32], sums: &[f32], i: usize) -> KeptReading
     requires { Room hashes.now links.now sums.now (i + 1) }
-    ensures { result ≡ kept_in_lem hashes.now links.now sums.now i }
+    ensures { result ≡ kept_read_in hashes.now links.now sums.now i }
 {
     KeptReading {
         hash: hashes[i],
@@ -91,7 +91,7 @@ fn find_kept(hashes: &[u64], links: &[u32], sums: &[f32], n: usize, k: KeptReadi
 // Puts k where it comes sooner than the one that is there.
 fn put_sooner(hashes: &mut [u64], links: &mut [u32], sums: &mut [f32], i: usize, k: KeptReading)
     requires { Room hashes.old links.old sums.old (i + 1) }
-    ensures { KeptPut hashes.old links.old sums.old hashes.new links.new sums.new i (sooner_of k (kept_in_lem hashes.old links.old sums.old i)) }
+    ensures { KeptPut hashes.old links.old sums.old hashes.new links.new sums.new i (sooner_of k (kept_read_in hashes.old links.old sums.old i)) }
 {
     if kept_sooner(k, kept_at(hashes, links, sums, i)) {
         put_kept(hashes, links, sums, i, k);
@@ -211,7 +211,7 @@ fn add_below(
     places: usize,
 ) -> usize
     requires { (EntriesAsk hashes.now nexts.now costs.now first count above.len) × (Room kept_hashes.old kept_links.old kept_sums.old places) × (n ≤ places) }
-    ensures { Added kept_hashes.old kept_links.old kept_sums.old n (within bound (kept_from_lem hashes.now nexts.now costs.now c counts above (first + 1) (count - 1))) places kept_hashes.new kept_links.new kept_sums.new result }
+    ensures { Added kept_hashes.old kept_links.old kept_sums.old n (within bound (kept_starts_from hashes.now nexts.now costs.now c counts above (first + 1) (count - 1))) places kept_hashes.new kept_links.new kept_sums.new result }
 {
     let mut m = n;
     let mut i: u32 = 1;

@@ -12,7 +12,7 @@ use Rattle.decoder.specs.declared.Called.{Called}
 use Rattle.decoder.specs.declared.Called.TheVariants.{Done}
 use Rattle.decoder.specs.declared.Fitted.{Fitted}
 use Rattle.decoder.specs.declared.Fitted.TheVariants.{Done as FitDone}
-use Rattle.decoder.specs.Contracts.{FrameIs, FitIs, FrameLeft}
+use Rattle.decoder.specs.Promises.{FrameIs, FitIs, FrameLeft}
 use Rattle.decoder.specs.Behaves.{value_of}
 use Rattle.decoder.specs.Held.{Held, HeldFitted, held_asked, call_held, fit_held}
 

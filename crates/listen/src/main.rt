@@ -8,7 +8,7 @@
 ghost use Rattle.std.specs.Prelude.{◌≤◌, ◌<◌, length};
 ghost use Rattle.stores.specs.Rep.{lent};
 ghost use Rattle.nonemitting.specs.Expand.{graph_tables};
-ghost use Rattle.decoder.specs.Contracts.{FinalsLeft};
+ghost use Rattle.decoder.specs.Promises.{FinalsLeft};
 ghost use Rattle.listen.specs.Held.{Hearing};
 
 use courses::Course;

@@ -27,7 +27,7 @@ use Rattle.listing_laws.specs.Situation.{Situation}
 use Rattle.listing_laws.specs.Owns.{rank_in}
 use Rattle.listing_laws.specs.Heads.{bound_at, bound_past}
 use Rattle.listing_laws.specs.Belows.{belows_are}
-use Rattle.listing_laws.specs.Known.{kept_in_lem, kept_groups}
+use Rattle.listing_laws.specs.Known.{kept_read_in, kept_groups}
 use Rattle.listing.specs.declared.Ranked.{Ranked}
 use Rattle.listing.specs.declared.KeptFound.TheVariants.{Full as NoPlace}
 use Rattle.listing.specs.Listed.{bound_of, OwnListed, HeadsListed, Found, FoundIs, entries_full, map_full, overfull}
@@ -46,7 +46,7 @@ module _ {tk : List ℕ} {sm fs : List Float} {rs : List ℕ} {ls : List ℤ} {g
   bound = bound_of tk sm fs b counts own o.own listed
 
   abbrev kept_all : List Kept
-  kept_all = kept_in_lem S.g S.st use_final margin bound (listed + 1)
+  kept_all = kept_read_in S.g S.st use_final margin bound (listed + 1)
 
   -- the bound is the definition's
   bound_is : rank_at (listed - 1) (grouped S.g S.st use_final) ≡ bound
@@ -60,13 +60,13 @@ module _ {tk : List ℕ} {sm fs : List Float} {rs : List ℕ} {ls : List ℤ} {g
   readings_are = readings_expanded S.g S.st use_final listed margin begins S.margin_is
 
   -- the definition's readings, by this bound
-  pub groups_are : (readings S.g S.st use_final listed).groups ≡ merged (grouped S.g S.st use_final) (kept_groups (kept_in_lem S.g S.st use_final margin (bound_of tk sm fs b counts own o.own listed) (listed + 1)))
+  pub groups_are : (readings S.g S.st use_final listed).groups ≡ merged (grouped S.g S.st use_final) (kept_groups (kept_read_in S.g S.st use_final margin (bound_of tk sm fs b counts own o.own listed) (listed + 1)))
   unfolding expanded
-  groups_are = ap (λ (x : Readings). x.groups) readings_are ∙ ap₂ (λ (x : Float) (k : ℕ). merged (grouped S.g S.st use_final) (kept_groups (kept_in_lem S.g S.st use_final margin x k))) bound_is (sym (add-one listed))
+  groups_are = ap (λ (x : Readings). x.groups) readings_are ∙ ap₂ (λ (x : Float) (k : ℕ). merged (grouped S.g S.st use_final) (kept_groups (kept_read_in S.g S.st use_final margin x k))) bound_is (sym (add-one listed))
 
   kepts_is : (expanded S.g S.st use_final listed margin).kepts ≡ length kept_all
   unfolding expanded
-  kepts_is = ap₂ (λ (x : Float) (k : ℕ). length (kept_in_lem S.g S.st use_final margin x k)) bound_is (sym (add-one listed))
+  kepts_is = ap₂ (λ (x : Float) (k : ℕ). length (kept_read_in S.g S.st use_final margin x k)) bound_is (sym (add-one listed))
 
   module _ {heads' : List ℕ} {m : ℕ} (H : HeadsListed tk sm fs rs ls b used counts bound heads heads' o.all m) where
     abbrev links : List ℕ

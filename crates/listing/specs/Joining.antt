@@ -14,12 +14,12 @@ use Rattle.groups.specs.Firsts.{link_at, FirstsIs}
 use Rattle.below.specs.Stored.{Decoded}
 use Rattle.routes.specs.Entries.{joins_of}
 use Rattle.routes.specs.Joins.{numbers_are}
-use Rattle.kept_readings.specs.Kept.{kept_in_lem, Room}
-use Rattle.kept_order.specs.Before.{kept_before_lem}
+use Rattle.kept_readings.specs.Kept.{kept_read_in, Room}
+use Rattle.kept_order.specs.Before.{kept_is_before}
 use Rattle.kept_order.specs.Asks.{OrderAsks, OrderIs}
 use Rattle.merged.specs.Items.{kept_first, MergeAsks, ListMerged, merged_items}
 use Rattle.merged.specs.Drops.{route_tells, KeptAsks}
-use Rattle.merged.specs.Left.{kept_stands, own_stands, own_left_lem}
+use Rattle.merged.specs.Left.{kept_stands, own_stands, own_still_left}
 use Rattle.listing_laws.specs.Situation.{Situation, Held}
 use Rattle.listing_laws.specs.Alike.{at_front}
 use Rattle.listing_laws.specs.Owns.{rank_in, link_in, own_held}
@@ -34,7 +34,7 @@ use Rattle.listing.specs.Finding.{chains_of, group_asks, own_asks}
 use Rattle.listing.specs.Keeping.{KeptSound, belows, decoded, belows_few, sound_at}
 
 -- what is left of the own groups is of them
-pub left_from : (same first : ℕ → ℕ → Bool) (kept own : List ℕ) (s : ℕ) → s ∈ own_left_lem same first kept own → s ∈ own
+pub left_from : (same first : ℕ → ℕ → Bool) (kept own : List ℕ) (s : ℕ) → s ∈ own_still_left same first kept own → s ∈ own
 left_from same first kept (o ∷ own) s (here e) = here e
 left_from same first kept (o ∷ own) s (there m) = there (keep_from (own_stands same first kept) own s m)
 
@@ -72,12 +72,12 @@ module _ {tk : List ℕ} {sm fs : List Float} {rs : List ℕ} {ls : List ℤ} {n
   nexts_long : length bs * 3 ≤ length ns
   nexts_long = belows_few S W.found W.nexts
 
-  sound : (i : ℕ) → i < r → KeptSound tk rs ls b n used ns bs (kept_in_lem khs kns kxs i)
+  sound : (i : ℕ) → i < r → KeptSound tk rs ls b n used ns bs (kept_read_in khs kns kxs i)
   sound = sound_at S W.found W.stores.few_records W.own_listed.ranked W.few
 
-  joins_few : (i : ℕ) → i < r → length (joins_of ns (kept_in_lem khs kns kxs i).entry) ≤ used
+  joins_few : (i : ℕ) → i < r → length (joins_of ns (kept_read_in khs kns kxs i).entry) ≤ used
   joins_few i l =
-      let k = kept_in_lem khs kns kxs i in
+      let k = kept_read_in khs kns kxs i in
       let x = sound i l in
       let e = ap length (numbers_are D k.entry x.entry) in
       let q : length (numbers_of S.h (joins_of ns k.entry)) ≡ length (joins_of ns k.entry) = length-map (joins_of ns k.entry) _ in
@@ -105,7 +105,7 @@ module _ {tk : List ℕ} {sm fs : List Float} {rs : List ℕ} {ls : List ℤ} {n
           few = omega arith;
           each = λ i l.
               let y = sound i l in
-              let s = group_asks W.stores (kept_in_lem khs kns kxs i).state y.held in
+              let s = group_asks W.stores (kept_read_in khs kns kxs i).state y.held in
               let j = joins_few i l in
               record { known = y.known; inside = s.inside; low = s.low; entry = y.entry; len = y.len; first_room = omega arith; second_room = omega arith };
         };
@@ -116,7 +116,7 @@ module _ {tk : List ℕ} {sm fs : List Float} {rs : List ℕ} {ls : List ℤ} {n
   -- for the twins of one
   kept_asks : (i : ℕ) → i < r → (route : List ℕ) → used ≤ length route → KeptAsks tk rs ls b used ns khs kns kxs route i
   kept_asks i l route u =
-      let k = kept_in_lem khs kns kxs i in
+      let k = kept_read_in khs kns kxs i in
       let y = sound i l in
       let s = group_asks W.stores k.state y.held in
       record {
@@ -129,7 +129,7 @@ module _ {tk : List ℕ} {sm fs : List Float} {rs : List ℕ} {ls : List ℤ} {n
 
   -- ---- once they are in order
 
-  module _ {order : List ℕ} (O : OrderIs (kept_before_lem tk rs ls b ns khs kns kxs) r order) (order_long : W.most ≤ length order) where
+  module _ {order : List ℕ} (O : OrderIs (kept_is_before tk rs ls b ns khs kns kxs) r order) (order_long : W.most ≤ length order) where
     -- for the own groups that go, and the kept readings
     pub settle_asks : {keys places : ℕ} {gone route : List ℕ} → n ≤ keys → n ≤ places → n ≤ length gone → used ≤ length route → SettleAsks tk sm fs rs ls b used own m keys places gone ns khs kns kxs order r route
     settle_asks {route = route} a c d e =

@@ -23,15 +23,15 @@ use Rattle.below.specs.Marks.{link_of, head_links}
 use Rattle.below.specs.Filling.{entries_below, Listed, Outcome, was_full, was_filled, BelowIs}
 use Rattle.below.specs.Short.{Short}
 use Rattle.kept_readings.specs.declared.KeptReading.{KeptReading}
-use Rattle.kept_readings.specs.Kept.{kept_in_lem as kept_place, kept_list}
+use Rattle.kept_readings.specs.Kept.{kept_read_in as kept_place, kept_list}
 use Rattle.kept_readings.specs.Meaning.{as_kept, kept_within, Head, ListsInside}
 use Rattle.kept_readings.specs.Whole.{Orderly, map_held, map_more}
-use Rattle.kept_order.specs.Before.{kept_before_lem, words_back}
+use Rattle.kept_order.specs.Before.{kept_is_before, words_back}
 use Rattle.kept_order.specs.Asks.{OrderIs}
 use Rattle.listing_laws.specs.Situation.{Situation, Held}
 use Rattle.listing_laws.specs.Owns.{rank_in, link_in}
 use Rattle.listing_laws.specs.Heads.{head_in, heads_right}
-use Rattle.listing_laws.specs.Known.{kept_key, kept_in_lem, Known, kept_not_own, kept_has_rank}
+use Rattle.listing_laws.specs.Known.{kept_key, kept_read_in, Known, kept_not_own, kept_has_rank}
 use Rattle.listing_laws.specs.Knows.{numbered, route_few, met_orderly, known}
 use Rattle.listing_laws.specs.Members.{KeptHeld, kept_held}
 use Rattle.listing_laws.specs.Words.{kept_hash, kept_len}
@@ -78,7 +78,7 @@ module _ {tk : List ℕ} {sm fs : List Float} {rs : List ℕ} {ls : List ℤ} {g
   heads_are = heads_right S counts f c R (numbered S counts) bound H.firsts H.are
 
   -- and so is the map of what they keep
-  map_of : (cap : ℕ) → kept_map counts margin bound cap (map (rank_in S counts) (take m heads')) ≡ kept_in_lem S.g S.st f margin bound cap
+  map_of : (cap : ℕ) → kept_map counts margin bound cap (map (rank_in S counts) (take m heads')) ≡ kept_read_in S.g S.st f margin bound cap
   map_of cap = ap (kept_map counts margin bound cap) (sym heads_are) ∙ ap (λ (x : Bool). kept_map x margin bound cap (heads x bound (ranked S.g S.st f))) c
 
   -- what is met for it has ranks, and no two of one key are level
@@ -135,31 +135,31 @@ module _ {tk : List ℕ} {sm fs : List Float} {rs : List ℕ} {ls : List ℤ} {g
       found_known = known S S.margin_is few_records f bound cap (omega arith)
 
       -- where there are more kept readings than places, the definition's map has more
-      pub map_over : most < r → most < length (kept_in_lem S.g S.st f margin bound cap)
+      pub map_over : most < r → most < length (kept_read_in S.g S.st f margin bound cap)
       map_over l =
           subst (λ (ks : List Kept). most < length ks) (map_of S f c R F.are cap) (map_more gs S.h S.stands put.listed put.inside S.shown S.g S.finals S.long counts bound F.fill tokens all_orderly l)
 
       -- else the places hold the definition's map
       module _ (few : r ≤ most) where
         -- in some order
-        pub map_is : Perm (map stand (kept_list khs kns kxs r)) (kept_in_lem S.g S.st f margin bound cap)
+        pub map_is : Perm (map stand (kept_list khs kns kxs r)) (kept_read_in S.g S.st f margin bound cap)
         map_is =
             subst (Perm (map stand (kept_list khs kns kxs r))) (map_of S f c R F.are cap) (map_held gs S.h S.stands put.listed put.inside S.shown S.g S.finals S.long counts bound F.fill tokens all_orderly few)
 
-        in_map : (k : KeptReading) → k ∈ kept_list khs kns kxs r → stand k ∈ kept_in_lem S.g S.st f margin bound cap
+        in_map : (k : KeptReading) → k ∈ kept_list khs kns kxs r → stand k ∈ kept_read_in S.g S.st f margin bound cap
         in_map k m = perm_member map_is (stand k) (map_to stand (kept_list khs kns kxs r) k m)
 
         held : (k : KeptReading) → k ∈ kept_list khs kns kxs r → KeptHeld S counts head_states F.free k
         held k m = kept_held S counts short bound F.fill (λ s i. ((tokens s i).0, (link_in S counts s (held-head s i)).low)) few k m
 
         -- as the order of the list asks it
-        pub all_met : (ord : List ℕ) (O : OrderIs (kept_before_lem tk rs ls b ns khs kns kxs) r ord) → Met S counts decoded khs kns kxs r ord O head_states F.free
+        pub all_met : (ord : List ℕ) (O : OrderIs (kept_is_before tk rs ls b ns khs kns kxs) r ord) → Met S counts decoded khs kns kxs r ord O head_states F.free
         all_met ord O =
             record {
               held = held;
               active = held-head;
               many = put.next ∙ ap suc (sym put.listed.many);
-              foreign = λ k m. kept_not_own found_known (kept_group (stand k)) (map_to kept_group (kept_in_lem S.g S.st f margin bound cap) (stand k) (in_map k m));
+              foreign = λ k m. kept_not_own found_known (kept_group (stand k)) (map_to kept_group (kept_read_in S.g S.st f margin bound cap) (stand k) (in_map k m));
             }
 
         counted_sound : (k : KeptReading) → k ∈ kept_list khs kns kxs r → KeptSound tk rs ls b n used ns belows k

@@ -16,12 +16,12 @@ use Rattle.below.specs.Filling.{BelowIs}
 use Rattle.below.specs.Marks.{head_links}
 use Rattle.ranking.specs.Ranked.{RankedIs}
 use Rattle.groups.specs.Firsts.{FirstsIs}
-use Rattle.kept_readings.specs.Kept.{kept_in_lem, Room}
+use Rattle.kept_readings.specs.Kept.{kept_read_in, Room}
 use Rattle.kept_readings.specs.Heads.{HeadsAre, FillIs}
-use Rattle.kept_order.specs.Before.{kept_before_lem}
+use Rattle.kept_order.specs.Before.{kept_is_before}
 use Rattle.kept_order.specs.Asks.{OrderIs}
 use Rattle.merged.specs.Items.{OwnAsks, own_rank, kept_first, merged_items}
-use Rattle.merged.specs.Left.{kept_stands, own_left_lem}
+use Rattle.merged.specs.Left.{kept_stands, own_still_left}
 use Rattle.listing_laws.specs.Situation.{Situation, Held}
 use Rattle.listing_laws.specs.Whole.{item_group, same_test}
 use Rattle.listing.specs.declared.Ranked.{Ranked}
@@ -204,11 +204,11 @@ pub record WithAsks (tk : List ℕ) (sm fs : List Float) (rs : List ℕ) (ls : L
 -- in some order that is the list's, what is left of both is merged
 pub record WithIs (tk : List ℕ) (sm fs : List Float) (rs : List ℕ) (ls : List ℤ) (b : ℕ) (counts : Bool) (own : List ℕ) (m : ℕ) (ns khs kns : List ℕ) (kxs : List Float) (r : ℕ) (list : List ℕ) (k : ℕ) : Type 0 where
   pub order : List ℕ
-  pub ordered : OrderIs (kept_before_lem tk rs ls b ns khs kns kxs) r order
+  pub ordered : OrderIs (kept_is_before tk rs ls b ns khs kns kxs) r order
   pub room : k ≤ length list
   pub few : k ≤ m + r
   pub is : take k list ≡ merged_items (kept_first tk sm fs b counts khs kns kxs)
-      (own_left_lem (same_test rs ls tk b ns khs kns kxs) (kept_first tk sm fs b counts khs kns kxs) (take r order) (take m own))
+      (own_still_left (same_test rs ls tk b ns khs kns kxs) (kept_first tk sm fs b counts khs kns kxs) (take r order) (take m own))
       (keep_if (kept_stands (same_test rs ls tk b ns khs kns kxs) (kept_first tk sm fs b counts khs kns kxs) (take m own)) (take r order))
 
 -- ---- the list
@@ -217,9 +217,9 @@ pub record WithIs (tk : List ℕ) (sm fs : List Float) (rs : List ℕ) (ls : Lis
 pub record ItemHeld (tk : List ℕ) (b n used : ℕ) (bs : List Below) (khs kns : List ℕ) (kxs : List Float) (i : ℕ) : Type 0 where
   pub own : i < 2_147_483_648 → Held tk b n i
   pub room : (2_147_483_648 ≤ i) → Room khs kns kxs (i - 2_147_483_648 + 1)
-  pub kept : (2_147_483_648 ≤ i) → Held tk b n (kept_in_lem khs kns kxs (i - 2_147_483_648)).state
-  pub entry : (2_147_483_648 ≤ i) → (kept_in_lem khs kns kxs (i - 2_147_483_648)).entry ≤ length bs
-  pub route : (2_147_483_648 ≤ i) → length (stands_for bs (kept_in_lem khs kns kxs (i - 2_147_483_648)).entry).route ≤ used
+  pub kept : (2_147_483_648 ≤ i) → Held tk b n (kept_read_in khs kns kxs (i - 2_147_483_648)).state
+  pub entry : (2_147_483_648 ≤ i) → (kept_read_in khs kns kxs (i - 2_147_483_648)).entry ≤ length bs
+  pub route : (2_147_483_648 ≤ i) → length (stands_for bs (kept_read_in khs kns kxs (i - 2_147_483_648)).entry).route ≤ used
 
 module _ {tk : List ℕ} {sm fs : List Float} {rs : List ℕ} {ls : List ℤ} {gs : List Float} {n b used : ℕ} {keeps : Bool} {margin : Float} (S : Situation tk sm fs rs ls gs n b used keeps margin) where
   -- 15, at these places

@@ -10,9 +10,9 @@ use Rattle.lists.specs.Merge.{merge_one, merge_of}
 use Rattle.model.specs.Reads.{use_finals}
 use Rattle.model.specs.Readings.{Below, readings}
 use Rattle.below.specs.Stored.{stands_for}
-use Rattle.kept_readings.specs.Kept.{kept_in_lem as kept_place, Room}
+use Rattle.kept_readings.specs.Kept.{kept_read_in as kept_place, Room}
 use Rattle.merged.specs.Items.{kept_first, listed_kept, merged_items}
-use Rattle.merged.specs.Left.{kept_stands, own_left_lem}
+use Rattle.merged.specs.Left.{kept_stands, own_still_left}
 use Rattle.listing_laws.specs.Situation.{Situation, Held}
 use Rattle.listing_laws.specs.Alike.{at_front}
 use Rattle.listing_laws.specs.Owns.{own_held}
@@ -81,7 +81,7 @@ module _ {tk : List ℕ} {sm fs : List Float} {rs : List ℕ} {ls : List ℤ} {g
   list_right =
       let first = kept_first tk sm fs b counts khs kns kxs in
       let same = same_test rs ls tk b ns khs kns kxs in
-      let left = own_left_lem same first (take r W.order) (take ranked.own own) in
+      let left = own_still_left same first (take r W.order) (take ranked.own own) in
       let kept = keep_if (kept_stands same first (take ranked.own own)) (take r W.order) in
       record {
         bs = bs;

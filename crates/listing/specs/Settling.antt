@@ -14,7 +14,7 @@ use Rattle.groups.specs.Laws.{sorted_places}
 use Rattle.merged.specs.Twins.{words_in, HashesSorted}
 use Rattle.merged.specs.Items.{OwnAsks}
 use Rattle.merged.specs.Drops.{KeptAsks, DropsAsk, TwinsDropped}
-use Rattle.merged.specs.Left.{GoneDropped, kept_stands, own_left_lem, kept_left, own_left}
+use Rattle.merged.specs.Left.{GoneDropped, kept_stands, own_still_left, kept_left, own_left}
 use Rattle.listing.specs.declared.Counts.{Counts}
 
 -- own groups, no two of one word list, whose keys are the hashes of their words; and kept readings in order
@@ -35,7 +35,7 @@ pub record SettleAsks (tk : List ℕ) (sm fs : List Float) (rs : List ℕ) (ls :
 pub record Settled (same first : ℕ → ℕ → Bool) (own own' : List ℕ) (m : ℕ) (order order' : List ℕ) (n : ℕ) (r : Counts) : Type 0 where
   pub own_few : r.own ≤ m
   pub kept_few : r.kept ≤ n
-  pub owns : take r.own own' ≡ own_left_lem same first (take n order) (take m own)
+  pub owns : take r.own own' ≡ own_still_left same first (take n order) (take m own)
   pub kepts : take r.kept order' ≡ keep_if (kept_stands same first (take m own)) (take n order)
 
 module _ {tk : List ℕ} {sm fs : List Float} {rs : List ℕ} {ls : List ℤ} {b used : ℕ} {own : List ℕ} {m keys places : ℕ} {gone nexts khs kns : List ℕ} {kxs : List Float} {order : List ℕ} {n : ℕ} {route : List ℕ}

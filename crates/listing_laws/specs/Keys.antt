@@ -21,7 +21,7 @@ use Rattle.copy_laws.specs.Listed.{kept_by_lem}
 use Rattle.copy_laws.specs.Below.{words_back_along, Keyed, below_keyed}
 use Rattle.copy_laws.specs.Distinct.{group_words}
 use Rattle.listing_laws.specs.Alike.{apart_names}
-use Rattle.listing_laws.specs.Known.{kept_in_lem, kept_groups}
+use Rattle.listing_laws.specs.Known.{kept_read_in, kept_groups}
 use Rattle.listing_laws.specs.Once.{key_of}
 
 -- ---- the kept map
@@ -30,7 +30,7 @@ abbrev same_kept : Kept → Kept → Bool
 same_kept a b = same_key a.key b.key
 
 module _ {g : Graph} {fs : List Heard} {st : State} (h : Standing g fs st) (f : Bool) (margin bound : Float) (cap : ℕ) where
-  kept_keyed : (k : Kept) → k ∈ kept_in_lem g st f margin bound cap → Keyed st.fresh k.ranked.token.path k.key
+  kept_keyed : (k : Kept) → k ∈ kept_read_in g st f margin bound cap → Keyed st.fresh k.ranked.token.path k.key
   unfolding kept_of
   kept_keyed k m =
       let d = kept_by_lem g st f margin bound cap k m in
@@ -41,17 +41,17 @@ module _ {g : Graph} {fs : List Heard} {st : State} (h : Standing g fs st) (f : 
   back_words : (k : Kept) → reverse (kept_group k).words ≡ words_back_along k.key.route k.ranked.token.path
   back_words k = ap reverse (trace_words 0 k.key.route k.ranked.token.path 0f)
 
-  kept_hash : (k : Kept) → k ∈ kept_in_lem g st f margin bound cap → k.key.hash ≡ hash_words (reverse (kept_group k).words)
+  kept_hash : (k : Kept) → k ∈ kept_read_in g st f margin bound cap → k.key.hash ≡ hash_words (reverse (kept_group k).words)
   kept_hash k m = (kept_keyed k m).hash ∙ ap hash_words (sym (back_words k))
 
-  kept_len : (k : Kept) → k ∈ kept_in_lem g st f margin bound cap → k.key.len ≡ length (reverse (kept_group k).words)
+  kept_len : (k : Kept) → k ∈ kept_read_in g st f margin bound cap → k.key.len ≡ length (reverse (kept_group k).words)
   kept_len k m = (kept_keyed k m).len ∙ ap length (sym (back_words k))
 
-  words_key : (k j : Kept) → k ∈ kept_in_lem g st f margin bound cap → j ∈ kept_in_lem g st f margin bound cap → (kept_group k).words ≡ (kept_group j).words → same_kept k j ≡ true
+  words_key : (k j : Kept) → k ∈ kept_read_in g st f margin bound cap → j ∈ kept_read_in g st f margin bound cap → (kept_group k).words ≡ (kept_group j).words → same_kept k j ≡ true
   words_key k j m n e =
       key_of k.key j.key (kept_hash k m ∙ ap (λ (w : List ℤ). hash_words (reverse w)) e ∙ sym (kept_hash j n)) (kept_len k m ∙ ap (λ (w : List ℤ). length (reverse w)) e ∙ sym (kept_len j n))
 
-  map_apart : Apart same_kept (kept_in_lem g st f margin bound cap)
+  map_apart : Apart same_kept (kept_read_in g st f margin bound cap)
   unfolding kept_map
   map_apart =
       let finals = use_finals g st f in
@@ -59,7 +59,7 @@ module _ {g : Graph} {fs : List Heard} {st : State} (h : Standing g fs st) (f : 
       (firsts_are same_kept [] (sort_by (λ (a b : Kept). sooner a.ranked b.ranked) (keep_if (λ (k : Kept). not (bound ≼ k.ranked.rank)) ks))).apart
 
   -- so no words come twice
-  pub kept_distinct : Nodup (group_words (kept_groups (kept_in_lem g st f margin bound cap)))
+  pub kept_distinct : Nodup (group_words (kept_groups (kept_read_in g st f margin bound cap)))
   kept_distinct =
-      let ks = kept_in_lem g st f margin bound cap in
+      let ks = kept_read_in g st f margin bound cap in
       subst Nodup (sym (map-map (λ (x : Group). x.words) kept_group ks)) (apart_names same_kept (λ (k : Kept). (kept_group k).words) ks words_key map_apart)

@@ -23,8 +23,8 @@ use Rattle.copy_laws.specs.Costs.{SureReading, kept_sure, own_sure, fair_margin_
 use Rattle.listing_laws.specs.Ordering.{HasRank}
 
 -- the kept map of a state
-abbrev pub kept_in_lem : Graph → State → (use_final : Bool) → (margin bound : Float) → (cap : ℕ) → List Kept
-kept_in_lem g st f margin bound cap = kept_map (use_finals g st f) margin bound cap (heads (use_finals g st f) bound (ranked g st f))
+abbrev pub kept_read_in : Graph → State → (use_final : Bool) → (margin bound : Float) → (cap : ℕ) → List Kept
+kept_read_in g st f margin bound cap = kept_map (use_finals g st f) margin bound cap (heads (use_finals g st f) bound (ranked g st f))
 
 -- the groups of kept readings
 abbrev pub kept_groups : List Kept → List Group
@@ -36,8 +36,8 @@ pub record Known (g : Graph) (fs : List Heard) (st : State) (f : Bool) (margin b
   pub floats : Floats32 g
   pub standing : Standing g fs st
   pub has_margin : st.margin ≡ some margin
-  pub few : (k : Kept) → k ∈ kept_in_lem g st f margin bound cap → Few (length k.key.route)
-  pub routed : (k : Kept) → k ∈ kept_in_lem g st f margin bound cap → k.key.route ≡ [] → ⊥
+  pub few : (k : Kept) → k ∈ kept_read_in g st f margin bound cap → Few (length k.key.route)
+  pub routed : (k : Kept) → k ∈ kept_read_in g st f margin bound cap → k.key.route ≡ [] → ⊥
 
 -- ---- a ranked token's kept reading, by a way below it
 
@@ -70,9 +70,9 @@ own_is_own g st f x m = let e = own_route g st f x m in rw e
 
 module _ {g : Graph} {fs : List Heard} {st : State} {f : Bool} {margin bound : Float} {cap : ℕ} (known : Known g fs st f margin bound cap) where
   -- a kept reading has some
-  pub kept_not_own : (x : Group) → x ∈ kept_groups (kept_in_lem g st f margin bound cap) → is_own x ≡ false
+  pub kept_not_own : (x : Group) → x ∈ kept_groups (kept_read_in g st f margin bound cap) → is_own x ≡ false
   kept_not_own x m =
-      let (k, n, e) = map_from kept_group (kept_in_lem g st f margin bound cap) x m in
+      let (k, n, e) = map_from kept_group (kept_read_in g st f margin bound cap) x m in
       ap is_own e ∙ go k.key.route (known.routed k n)
     where
       go : (l : List ℕ) → (l ≡ [] → ⊥) → eqb (length l) 0 ≡ false
@@ -88,14 +88,14 @@ module _ {g : Graph} {fs : List Heard} {st : State} {f : Bool} {margin bound : F
       finite_real x.rank (sure_finite 127 x.rank (s.rank (subst (λ (l : List ℕ). Few (length l)) (sym (own_route g st f x m)) (lit< tt))))
 
   -- of a kept reading
-  pub kept_has_rank : (k : Kept) → k ∈ kept_in_lem g st f margin bound cap → HasRank (kept_group k)
+  pub kept_has_rank : (k : Kept) → k ∈ kept_read_in g st f margin bound cap → HasRank (kept_group k)
   kept_has_rank k m =
       let d = kept_by_lem g st f margin bound cap k m in
       subst (λ (y : Kept). HasRank (kept_group y)) (sym d.is)
       (way_has_rank g known.good known.floats fs st known.standing margin known.has_margin f (use_finals g st f) cap d.head d.among d.way d.below (subst (λ (w : Below). Few (length w.route)) (kept_key d) (known.few k m)))
 
   -- of both
-  pub listed_has_rank : (x : Group) → x ∈ (grouped g st f ++ kept_groups (kept_in_lem g st f margin bound cap)) → HasRank x
+  pub listed_has_rank : (x : Group) → x ∈ (grouped g st f ++ kept_groups (kept_read_in g st f margin bound cap)) → HasRank x
   listed_has_rank x m =
       case (Memᴰ.append_cases (grouped g st f) m) (own_has_rank x)
-      (λ n. let (k, i, e) = map_from kept_group (kept_in_lem g st f margin bound cap) x n in subst HasRank (sym e) (kept_has_rank k i))
+      (λ n. let (k, i, e) = map_from kept_group (kept_read_in g st f margin bound cap) x n in subst HasRank (sym e) (kept_has_rank k i))

@@ -9,7 +9,7 @@ use Rattle.real32.specs.Order.{real}
 use Rattle.real32.specs.Small.{huge}
 use Rattle.model.specs.Basics.{◌≺◌, ◌≼◌, 0f}
 use Rattle.model.specs.Graph.{Graph}
-use Rattle.model.specs.Path.{Path, empty_path, arc_on_lem, branch_on, Token}
+use Rattle.model.specs.Path.{Path, empty_path, arc_onto, branch_on, Token}
 use Rattle.model.specs.Reads.{Ranked, rank_one, ranked, use_finals}
 use Rattle.model.specs.Readings.{Below, below, heads, kept_of, kept_below}
 use Rattle.copy_laws.specs.Walks.{Heard}
@@ -36,7 +36,7 @@ use Rattle.listing_laws.specs.Orderly.{orderly}
 -- a path's newest branch has a number
 numbered_of : (g : Graph) (fs : List Heard) (p : Path) → Forks g fs p → Numbered p
 numbered_of g fs empty_path d = tt
-numbered_of g fs (arc_on_lem x p) d = numbered_of g fs p d
+numbered_of g fs (arc_onto x p) d = numbered_of g fs p d
 numbered_of g fs (branch_on m k p) d = d.0.numbered
 
 module _ {tk : List ℕ} {sm fs : List Float} {rs : List ℕ} {ls : List ℤ} {gs : List Float} {n b used : ℕ} {keeps : Bool} {margin : Float} (S : Situation tk sm fs rs ls gs n b used keeps margin) where

@@ -17,7 +17,7 @@ use Rattle.below.specs.Short.{Short}
 use Rattle.below.specs.Maps.{range_member}
 use Rattle.kept_readings.specs.declared.KeptReading.{KeptReading}
 use Rattle.kept_readings.specs.Kept.{kept_list, same_kept, sooner_kept, add_to, all_from, Added, are_added, are_more, ranks_below, within}
-use Rattle.kept_readings.specs.Heads.{kept_by, kept_from_lem, kept_under, HeadsKept, no_heads, head_on, FillIs}
+use Rattle.kept_readings.specs.Heads.{kept_by, kept_starts_from, kept_under, HeadsKept, no_heads, head_on, FillIs}
 use Rattle.kept_readings.specs.Meaning.{Head, stood}
 use Rattle.listing_laws.specs.Situation.{Situation}
 use Rattle.listing_laws.specs.Owns.{rank_in}
@@ -59,8 +59,8 @@ module _ {tk : List ℕ} {sm fs : List Float} {rs : List ℕ} {ls : List ℤ} {g
         let c = x.candidate in
         let first = first_at lists join in
         let count = count_at lists join in
-        let i : k ∈ within bound (kept_from_lem hs ns xs c counts above (first + 1) (count - 1)) = subst (λ (y : Best). k ∈ kept_under hs ns xs y counts bound above first count) x.is m in
-        let (z, j, u) = map_from (λ (z : ℕ). kept_by c counts above z (entry_at hs ns xs z)) (range (first + 1) (count - 1)) k (keep_from (ranks_below bound) (kept_from_lem hs ns xs c counts above (first + 1) (count - 1)) k i) in
+        let i : k ∈ within bound (kept_starts_from hs ns xs c counts above (first + 1) (count - 1)) = subst (λ (y : Best). k ∈ kept_under hs ns xs y counts bound above first count) x.is m in
+        let (z, j, u) = map_from (λ (z : ℕ). kept_by c counts above z (entry_at hs ns xs z)) (range (first + 1) (count - 1)) k (keep_from (ranks_below bound) (kept_starts_from hs ns xs c counts above (first + 1) (count - 1)) k i) in
         let r = (range_member (first + 1) (count - 1) z j).0 in
         let q = (range_member (first + 1) (count - 1) z j).1 in
         let w = short.before join l in

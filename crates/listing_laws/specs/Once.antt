@@ -10,7 +10,7 @@ use Rattle.lists.specs.Lists.{◌∈◌, keep_if, sort_by, firsts}
 use Rattle.lists.specs.Members.{take_from, map_from}
 use Rattle.lists.specs.Firsts.{firsts_are}
 use Rattle.model.specs.Basics.{◌≺◌, ◌≼◌, 0f, nonzero, unsigned}
-use Rattle.model.specs.Path.{Path, empty_path, arc_on_lem, branch_on, word}
+use Rattle.model.specs.Path.{Path, empty_path, arc_onto, branch_on, word}
 use Rattle.model.specs.Hash.{hash_base, hash_word}
 use Rattle.model.specs.Readings.{Below, on_top, by_way, same_key, cheapest, below}
 use Rattle.copy_laws.specs.Below.{below_each}
@@ -88,7 +88,7 @@ unfolding below cheapest
 below_once margin cap empty_path a b (here p) (here q) e = p ∙ sym q
 below_once margin cap empty_path a b (here p) (there j) e = elim j [ ]
 below_once margin cap empty_path a b (there i) j e = elim i [ ]
-below_once margin cap (arc_on_lem x p) a b i j e =
+below_once margin cap (arc_onto x p) a b i j e =
     let (c, k, q) = map_from (on_top (word x)) (below margin cap p) a i in
     let (d, l, r) = map_from (on_top (word x)) (below margin cap p) b j in
     q ∙ ap (on_top (word x)) (below_once margin cap p c d k l (on_top_apart (word x) c d (below_fits margin cap p c k) (below_fits margin cap p d l) (ap₂ same_key (sym q) (sym r) ∙ e))) ∙ sym r

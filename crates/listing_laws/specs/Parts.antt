@@ -18,7 +18,7 @@ use Rattle.copy_laws.specs.Folded.{perm-map, perm_nodup}
 use Rattle.copy_laws.specs.Distinct.{group_words, grouped_distinct}
 use Rattle.listing_laws.specs.Merged.{unbeaten, apart_from, merged_is}
 use Rattle.listing_laws.specs.Ordering.{HasRank, order_strict}
-use Rattle.listing_laws.specs.Known.{kept_in_lem, kept_groups, Known, own_is_own, kept_not_own, listed_has_rank}
+use Rattle.listing_laws.specs.Known.{kept_read_in, kept_groups, Known, own_is_own, kept_not_own, listed_has_rank}
 use Rattle.listing_laws.specs.Keys.{kept_distinct}
 use Rattle.listing_laws.specs.Total.{words_of, listed_total}
 
@@ -30,9 +30,9 @@ left_by = unbeaten words_of same_words words_same words_alike read_order
 abbrev pub other_than : Group → List Group → List Group
 other_than = apart_from words_of same_words words_same words_alike read_order
 
-module _ {g : Graph} {fs : List Heard} {st : State} {f : Bool} {margin bound : Float} {cap : ℕ} (known : Known g fs st f margin bound cap) (ks : List Kept) (p : Perm (kept_in_lem g st f margin bound cap) ks) (o : Group) (os : List Group) (e : grouped g st f ≡ o ∷ os) where
+module _ {g : Graph} {fs : List Heard} {st : State} {f : Bool} {margin bound : Float} {cap : ℕ} (known : Known g fs st f margin bound cap) (ks : List Kept) (p : Perm (kept_read_in g st f margin bound cap) ks) (o : Group) (os : List Group) (e : grouped g st f ≡ o ∷ os) where
   abbrev kepts : List Group
-  kepts = kept_groups (kept_in_lem g st f margin bound cap)
+  kepts = kept_groups (kept_read_in g st f margin bound cap)
 
   in_own : (x : Group) → x ∈ os → x ∈ grouped g st f
   in_own x m = subst (λ (l : List Group). x ∈ l) (sym e) (there m)

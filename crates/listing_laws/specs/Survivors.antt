@@ -26,7 +26,7 @@ use Rattle.copy_laws.specs.Sooner.{has_rank, one_entry, ranked_sorted}
 use Rattle.copy_laws.specs.Distinct.{same_of}
 use Rattle.listing_laws.specs.Alike.{sorted-map}
 use Rattle.listing_laws.specs.Ordering.{HasRank, order_strict}
-use Rattle.listing_laws.specs.Known.{kept_in_lem, kept_groups, Known, own_is_own, kept_not_own, own_has_rank, listed_has_rank}
+use Rattle.listing_laws.specs.Known.{kept_read_in, kept_groups, Known, own_is_own, kept_not_own, own_has_rank, listed_has_rank}
 use Rattle.listing_laws.specs.Total.{words_of}
 
 -- ---- a survivor x and a kept reading y
@@ -69,7 +69,7 @@ module _ (x y : Group) (own : is_own x ≡ true) (kept : is_own y ≡ false) whe
 
 module _ {g : Graph} {fs : List Heard} {st : State} {f : Bool} {margin bound : Float} {cap : ℕ} (known : Known g fs st f margin bound cap) where
   -- so it is between any two of the lists
-  pub beaten_by_rank : (x y : Group) → x ∈ grouped g st f → y ∈ kept_groups (kept_in_lem g st f margin bound cap) → (read_order y x ≡ (y.rank ≺ x.rank)) × (read_order x y ≡ not (y.rank ≺ x.rank))
+  pub beaten_by_rank : (x y : Group) → x ∈ grouped g st f → y ∈ kept_groups (kept_read_in g st f margin bound cap) → (read_order y x ≡ (y.rank ≺ x.rank)) × (read_order x y ≡ not (y.rank ≺ x.rank))
   beaten_by_rank x y m n =
       let own = own_is_own g st f x m in
       let kept = kept_not_own known y n in

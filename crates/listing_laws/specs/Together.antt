@@ -10,7 +10,7 @@ use Rattle.below.specs.Maps.{map_same}
 use Rattle.kept_readings.specs.Model.{keep_as}
 use Rattle.lists.specs.Merge.{Merges, merge_is, map_merge}
 use Rattle.merged.specs.Items.{listed_kept, merged_items}
-use Rattle.merged.specs.Left.{kept_stands, own_stands, own_left_lem, kept_stands_lem}
+use Rattle.merged.specs.Left.{kept_stands, own_stands, own_still_left, kept_stands_lem}
 use Rattle.listing_laws.specs.Alike.{sorted_keep}
 use Rattle.listing_laws.specs.Left.{left_own, left_other}
 
@@ -62,7 +62,7 @@ module _ {C : Type 0} (P : C → Type 0) (before : C → C → Bool) (strict : S
     other_words = sym (keep_as q (λ (i : ℕ). not (same i o)) (λ (c : C). not (alike c (p o))) ord (λ i m. ap not (sym (R.same_back o i (here refl) m))))
 
     -- what the code merges stands for this list
-    pub together : map item (merged_items first (own_left_lem same first ord (o ∷ os)) (keep_if (kept_stands same first (o ∷ os)) ord))
+    pub together : map item (merged_items first (own_still_left same first ord (o ∷ os)) (keep_if (kept_stands same first (o ∷ os)) ord))
         ≡ p o ∷ sort_by before (keep_if (λ (c : C). not (beats (map q ord) c)) (map p os) ++ keep_if (λ (c : C). not (beats (map p os) c)) (keep_if (λ (c : C). not (alike c (p o))) (map q ord)))
     together =
         let same-os : (s i : ℕ) → s ∈ os → i ∈ ord → alike (p s) (q i) ≡ same i s = λ s i m k. R.same_is s i (there m) k in

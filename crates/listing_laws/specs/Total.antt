@@ -15,7 +15,7 @@ use Rattle.copy_laws.specs.Folded.{perm-map}
 use Rattle.copy_laws.specs.Distinct.{same_of, grouped_distinct}
 use Rattle.listing_laws.specs.Alike.{one_of}
 use Rattle.listing_laws.specs.Ordering.{HasRank, order_strict, order_level}
-use Rattle.listing_laws.specs.Known.{kept_in_lem, kept_groups, Known, own_is_own, kept_not_own, listed_has_rank}
+use Rattle.listing_laws.specs.Known.{kept_read_in, kept_groups, Known, own_is_own, kept_not_own, listed_has_rank}
 use Rattle.listing_laws.specs.Keys.{kept_distinct}
 
 -- the words of a reading
@@ -42,10 +42,10 @@ module _ {g : Graph} {fs : List Heard} {st : State} {f : Bool} {margin bound : F
   own = grouped g st f
 
   abbrev kept : List Kept
-  kept = kept_in_lem g st f margin bound cap
+  kept = kept_read_in g st f margin bound cap
 
   -- two that are level are one
-  pub listed_total : (x y : Group) → x ∈ (grouped g st f ++ kept_groups (kept_in_lem g st f margin bound cap)) → y ∈ (grouped g st f ++ kept_groups (kept_in_lem g st f margin bound cap)) → read_order x y ≡ false → read_order y x ≡ false → x ≡ y
+  pub listed_total : (x y : Group) → x ∈ (grouped g st f ++ kept_groups (kept_read_in g st f margin bound cap)) → y ∈ (grouped g st f ++ kept_groups (kept_read_in g st f margin bound cap)) → read_order x y ≡ false → read_order y x ≡ false → x ≡ y
   listed_total x y m n e d =
       let l = order_level x y (listed_has_rank known x m) (listed_has_rank known y n) e d in
       case (Memᴰ.append_cases own m)
@@ -57,5 +57,5 @@ module _ {g : Graph} {fs : List Heard} {st : State} {f : Bool} {margin bound : F
       (λ j. one_of words_of (kept_groups kept) (kept_distinct known.standing f margin bound cap) x y i j l.words))
 
   -- the kept map in any order gives the same list
-  pub merged_any_order : (ks : List Kept) → Perm (kept_in_lem g st f margin bound cap) ks → merged (grouped g st f) (kept_groups ks) ≡ merged (grouped g st f) (kept_groups (kept_in_lem g st f margin bound cap))
+  pub merged_any_order : (ks : List Kept) → Perm (kept_read_in g st f margin bound cap) ks → merged (grouped g st f) (kept_groups ks) ≡ merged (grouped g st f) (kept_groups (kept_read_in g st f margin bound cap))
   merged_any_order ks p = merged_perm (own ++ kept_groups kept) (listed_has_rank known) listed_total own (kept_groups kept) (kept_groups ks) refl (perm-map kept_group p)

@@ -21,7 +21,7 @@ use Rattle.routes.specs.Entries.{joins_of}
 use Rattle.routes.specs.Joins.{joins_routed, numbers_are}
 use Rattle.routes.specs.Told.{words_told, entry_words}
 use Rattle.kept_readings.specs.declared.KeptReading.{KeptReading}
-use Rattle.kept_readings.specs.Kept.{kept_in_lem, Room}
+use Rattle.kept_readings.specs.Kept.{kept_read_in, Room}
 use Rattle.merged.specs.Items.{OwnAsks, kept_first}
 use Rattle.merged.specs.Twins.{words_in, TokenAsks, HashesSorted, TwinAsks, TwinIs}
 
@@ -47,10 +47,10 @@ route_tells {rs} {ls} {h = h} ok link p shows cost {nx = nx} {entry = entry} d l
 -- kept reading number i
 pub record KeptAsks (tk rs : List ℕ) (ls : List ℤ) (b used : ℕ) (nx hs ns : List ℕ) (xs : List Float) (route : List ℕ) (i : ℕ) : Type 0 where
   pub room : Room hs ns xs (i + 1)
-  pub token : TokenAsks tk b used (kept_in_lem hs ns xs i).state
-  pub routed : RouteAsks nx (kept_in_lem hs ns xs i).entry route
-  pub tells : RouteTells rs ls nx (kept_in_lem hs ns xs i).entry (link_at tk b (kept_in_lem hs ns xs i).state)
-  pub hash : (kept_in_lem hs ns xs i).hash ≡ hash_words (kept_words rs ls tk b nx (kept_in_lem hs ns xs i))
+  pub token : TokenAsks tk b used (kept_read_in hs ns xs i).state
+  pub routed : RouteAsks nx (kept_read_in hs ns xs i).entry route
+  pub tells : RouteTells rs ls nx (kept_read_in hs ns xs i).entry (link_at tk b (kept_read_in hs ns xs i).state)
+  pub hash : (kept_read_in hs ns xs i).hash ≡ hash_words (kept_words rs ls tk b nx (kept_read_in hs ns xs i))
 
 pub record OwnsAsk (tk : List ℕ) (sm fs : List Float) (rs : List ℕ) (ls : List ℤ) (b used : ℕ) (own : List ℕ) (m : ℕ) (ks ps : List ℕ) : Type 0 where
   pub side : b ≤ 1
@@ -64,7 +64,7 @@ pub record OwnsAsk (tk : List ℕ) (sm fs : List Float) (rs : List ℕ) (ls : Li
 
 -- kept reading i reads as the own group in place p does
 abbrev pub same_at : List ℕ → List ℤ → List ℕ → (side : ℕ) → (nexts own hs ns : List ℕ) → List Float → (i p : ℕ) → Bool
-same_at rs ls tk b nx own hs ns xs i p = same_words (kept_words rs ls tk b nx (kept_in_lem hs ns xs i)) (words_in rs ls tk b own p)
+same_at rs ls tk b nx own hs ns xs i p = same_words (kept_words rs ls tk b nx (kept_read_in hs ns xs i)) (words_in rs ls tk b own p)
 
 -- and comes before it; the best own group stays
 abbrev pub wins_at : List ℕ → (sm fs : List Float) → (side : ℕ) → (counts : Bool) → (own hs ns : List ℕ) → List Float → (i p : ℕ) → Bool
@@ -178,12 +178,12 @@ asks_for a l = record { h = a.h; used = a.used; hs = a.hs; xs = a.xs; bs = a.bs;
 pub kept_asks_for : {tk rs : List ℕ} {ls : List ℤ} {b used : ℕ} {nx hs ns : List ℕ} {xs : List Float} {route route' : List ℕ} {i i' : ℕ} → i' ≡ i → length route' ≡ length route → KeptAsks tk rs ls b used nx hs ns xs route i → KeptAsks tk rs ls b used nx hs ns xs route' i'
 kept_asks_for e l K = rw e (record { room = K.room; token = K.token; routed = asks_for K.routed l; tells = K.tells; hash = K.hash })
 
-module _ {tk rs : List ℕ} {ls : List ℤ} {b used : ℕ} {nx hs ns : List ℕ} {xs : List Float} {route : List ℕ} {i : ℕ} (K : KeptAsks tk rs ls b used nx hs ns xs route i) {k : KeptReading} (e : k ≡ kept_in_lem hs ns xs i) where
+module _ {tk rs : List ℕ} {ls : List ℤ} {b used : ℕ} {nx hs ns : List ℕ} {xs : List Float} {route : List ℕ} {i : ℕ} (K : KeptAsks tk rs ls b used nx hs ns xs route i) {k : KeptReading} (e : k ≡ kept_read_in hs ns xs i) where
   pub route_asks : RouteAsks nx k.entry route
   route_asks = subst (λ (k : KeptReading). RouteAsks nx k.entry route) (sym e) K.routed
 
   module _ {route' : List ℕ} {n : ℕ} (R : RouteIs nx k.entry route' n) where
-    words_are : back_along rs ls (take n route') (link_at tk b k.state) ≡ kept_words rs ls tk b nx (kept_in_lem hs ns xs i)
+    words_are : back_along rs ls (take n route') (link_at tk b k.state) ≡ kept_words rs ls tk b nx (kept_read_in hs ns xs i)
     words_are =
         ap (λ (k : KeptReading). back_along rs ls (take n route') (link_at tk b k.state)) e ∙ K.tells.is route' n (subst (λ (k : KeptReading). RouteIs nx k.entry route' n) e R)
 
@@ -200,5 +200,5 @@ module _ {tk rs : List ℕ} {ls : List ℤ} {b used : ℕ} {nx hs ns : List ℕ}
           hash = ap (λ (k : KeptReading). k.hash) e ∙ K.hash ∙ ap hash_words (sym words_are);
         }
 
-    pub twin_told : {words : ℕ → List ℤ} {m p : ℕ} → TwinIs words m (back_along rs ls (take n route') (link_at tk b k.state)) p → TwinIs words m (kept_words rs ls tk b nx (kept_in_lem hs ns xs i)) p
+    pub twin_told : {words : ℕ → List ℤ} {m p : ℕ} → TwinIs words m (back_along rs ls (take n route') (link_at tk b k.state)) p → TwinIs words m (kept_words rs ls tk b nx (kept_read_in hs ns xs i)) p
     twin_told {words} {m} {p} T = subst (λ (ws : List ℤ). TwinIs words m ws p) words_are T

@@ -97,9 +97,9 @@ abbrev pub own_stands : (same first : ℕ → ℕ → Bool) → (kept : List ℕ
 own_stands same first kept s = not (any (λ i. same i s && first i s) kept)
 
 -- the best own group stays
-abbrev pub own_left_lem : (same first : ℕ → ℕ → Bool) → (kept own : List ℕ) → List ℕ
-own_left_lem same first kept [] = []
-own_left_lem same first kept (g ∷ own) = g ∷ keep_if (own_stands same first kept) own
+abbrev pub own_still_left : (same first : ℕ → ℕ → Bool) → (kept own : List ℕ) → List ℕ
+own_still_left same first kept [] = []
+own_still_left same first kept (g ∷ own) = g ∷ keep_if (own_stands same first kept) own
 
 first_stays : (stays : ℕ → Bool) (x y : ℕ) (xs ys : List ℕ) → y ≡ x → (x ≡ dropped → ⊥) → keep_if (λ s. not (eqb s dropped)) ys ≡ keep_if stays xs → keep_if (λ s. not (eqb s dropped)) (y ∷ ys) ≡ x ∷ keep_if stays xs
 first_stays stays x y xs ys z d r =
@@ -192,7 +192,7 @@ module _ (same first : ℕ → ℕ → Bool) (own order : List ℕ) (m n : ℕ) 
             ap (λ (b : Bool). cond b s dropped) (ne_eqb (get_or gone' (suc k) 0) 0 (λ e. omega arith) ∙ sym (own_not s j u t (sym (later k (first (get_or order j 0) s)) ∙ w)))
 
     -- what closing up leaves of the own groups
-    pub own_left : length own' ≡ length own → ((p : ℕ) → p < m → (get_or own p 0 ≡ dropped → ⊥)) → keep_if (λ s. not (eqb s dropped)) (take m own') ≡ own_left_lem same first (take n order) (take m own)
+    pub own_left : length own' ≡ length own → ((p : ℕ) → p < m → (get_or own p 0 ≡ dropped → ⊥)) → keep_if (λ s. not (eqb s dropped)) (take m own') ≡ own_still_left same first (take n order) (take m own)
     own_left e d =
         let l = length-take-le m own own_long in
         let l' = length-take-le m own' (omega arith) in
@@ -201,7 +201,7 @@ module _ (same first : ℕ → ℕ → Bool) (own order : List ℕ) (m n : ℕ) 
         (λ k u. let v : suc k < m = omega arith in get_or-take m own' (suc k) 0 v ∙ later_is k v ∙ ap (λ (s : ℕ). cond (own_stands same first (take n order) s) s dropped) (sym (get_or-take m own (suc k) 0 v)))
       where
         go : (xs ys : List ℕ) → length ys ≡ length xs → ((p : ℕ) → p < length xs → (get_or xs p 0 ≡ dropped → ⊥)) → (0 < length xs → get_or ys 0 0 ≡ get_or xs 0 0) → ((k : ℕ) → suc k < length xs → get_or ys (suc k) 0 ≡ cond (own_stands same first (take n order) (get_or xs (suc k) 0)) (get_or xs (suc k) 0) dropped)
-            → keep_if (λ s. not (eqb s dropped)) ys ≡ own_left_lem same first (take n order) xs
+            → keep_if (λ s. not (eqb s dropped)) ys ≡ own_still_left same first (take n order) xs
         go [] [] q d f g = refl
         go [] (y ∷ ys) q d f g = absurd (omega arith)
         go (x ∷ xs) [] q d f g = absurd (omega arith)

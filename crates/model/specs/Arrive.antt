@@ -4,7 +4,7 @@ use Rattle.std.proofs.Math.Option.{Option, none, some}
 use Rattle.real32.specs.Small.{tame}
 use Rattle.model.specs.Basics.{◌≺◌, ◌≼◌, ◌⊕◌, ◌⊖◌, 0f, eqℤ, over, Outcome, ok, refused, ◌>>=◌, check}
 use Rattle.model.specs.Graph.{Graph, Arc, emits, has_eps, pdf_of, phone_of}
-use Rattle.model.specs.Path.{Step, Path, arc_on_lem, branch_on, Token, Table, paths, is_link, memℕ, worth_keeping, Limits}
+use Rattle.model.specs.Path.{Step, Path, arc_onto, branch_on, Token, Table, paths, is_link, memℕ, worth_keeping, Limits}
 
 -- The choice of pass. The emitting one has the frame's log-likelihoods, the cost offset and the adaptive beam.
 pub data Pass : Type 0 where
@@ -53,7 +53,7 @@ pub record Work : Type 0 where
 -- ---- what an arc meets
 
 pub data Meets : Type 0 where
-  cut_off_lem : Meets
+  past_cutoff : Meets
   vacant : Meets
   better : (gap : Float) → (held : Token) → Meets
   not_better : (gap : Float) → (held : Token) → Meets
@@ -65,7 +65,7 @@ against tot (some t) = cond (tot ≺ t.cost) (better (t.cost ⊖ tot) t) (not_be
 
 -- a total at the cutoff is cut off
 unfoldable pub meets : (cutoff tot : Float) → Option Token → Meets
-meets cutoff tot held = elim (cutoff ≼ tot) [ true ↦ cut_off_lem | false ↦ against tot held ]
+meets cutoff tot held = elim (cutoff ≼ tot) [ true ↦ past_cutoff | false ↦ against tot held ]
 
 -- ---- the arriving token: its source's path, copied, and the arc
 
@@ -74,7 +74,7 @@ unfoldable pub step_on : Here → Pass → Token → Arc → (number : ℕ) → 
 step_on h p t a n beside = let ph = phone_after h.graph p t a in record { number = n; arc = a; frame = h.frame; starts = cond (eqℤ ph t.phone) (pos 0) ph; beside = beside }
 
 unfoldable pub arriving : Here → Pass → Token → Arc → (number seq : ℕ) → (beside : Bool) → Token
-arriving h p t a n q beside = record { cost = total h.graph p t a; graph = t.graph ⊕ a.weight; path = arc_on_lem (step_on h p t a n beside) t.path; phone = phone_after h.graph p t a; seq = q }
+arriving h p t a n q beside = record { cost = total h.graph p t a; graph = t.graph ⊕ a.weight; path = arc_onto (step_on h p t a n beside) t.path; phone = phone_after h.graph p t a; seq = q }
 
 -- ---- a loser that is kept
 
@@ -101,14 +101,14 @@ keep h hand n gap won lost = elim (keeps h.margin gap won lost) [ false ↦ ok n
 -- ---- one arriving arc: 12 for its total, 12 for a winner's graph sum, 13 for its record, 13 for its join, 14 for the push
 
 -- the live paths, `p` in hand
-abbrev pub in_hand_lem : Here → Work → Path → List Path
-in_hand_lem h w p = p ∷ (paths w.table ++ h.before)
+abbrev pub path_in_hand : Here → Work → Path → List Path
+path_in_hand h w p = p ∷ (paths w.table ++ h.before)
 
 -- a winner: its graph sum, then its record
 unfoldable pub check_winner : Here → Work → Pass → Token → Arc → Outcome (Unit {0})
 check_winner h w p t a =
     check 12 (tame (t.graph ⊕ a.weight)) >>= λ u.
-    check 13 (not (is_link (step_on h p t a 0 false) && h.limits.full (in_hand_lem h w t.path)))
+    check 13 (not (is_link (step_on h p t a 0 false) && h.limits.full (path_in_hand h w t.path)))
 
 -- What becomes of the state: its arc was cut off, its token stays, it has a new token (with the latest seq), or its token has a loser joined to it.
 pub data Change : Type 0 where
@@ -133,16 +133,16 @@ fills h p t a w = check_winner h w p t a >>= λ u. ok (token_wins (arriving h p 
 unfoldable pub beats : Here → Pass → Token → Arc → Work → (gap : Float) → (held : Token) → Outcome Change
 beats h p t a w gap held =
     let new = arriving h p t a w.fresh held.seq false in
-    check_winner h w p t a >>= λ u. keep h (in_hand_lem h w new.path) (suc w.fresh) gap new held >>= λ j. ok (token_wins (or_else new j) w.seq)
+    check_winner h w p t a >>= λ u. keep h (path_in_hand h w new.path) (suc w.fresh) gap new held >>= λ j. ok (token_wins (or_else new j) w.seq)
 
 -- not better: the state's token stays, with the arrival as a branch if it is kept
 unfoldable pub loses : Here → Pass → Token → Arc → Work → (gap : Float) → (held : Token) → Outcome Change
 loses h p t a w gap held =
     let new = arriving h p t a w.fresh 0 true in
-    keep h (in_hand_lem h w new.path) (suc w.fresh) gap held new >>= λ j. ok (joins_or_stays j)
+    keep h (path_in_hand h w new.path) (suc w.fresh) gap held new >>= λ j. ok (joins_or_stays j)
 
 unfoldable pub settle : Here → Pass → Token → Arc → Work → Meets → Outcome Change
-settle h p t a w cut_off_lem = ok arc_cut
+settle h p t a w past_cutoff = ok arc_cut
 settle h p t a w vacant = check 12 (tame (total h.graph p t a)) >>= λ u. fills h p t a w
 settle h p t a w (better gap held) = check 12 (tame (total h.graph p t a)) >>= λ u. beats h p t a w gap held
 settle h p t a w (not_better gap held) = check 12 (tame (total h.graph p t a)) >>= λ u. loses h p t a w gap held

@@ -14,7 +14,7 @@ use Rattle.real32.specs.Small.{tame}
 use Rattle.model.specs.Basics.{◌≺◌, ◌≼◌, ◌⊕◌, ◌⊖◌, over, Outcome, ◌>>=◌, check}
 use Rattle.model.specs.Graph.{Arc, has_eps}
 use Rattle.model.specs.Path.{Path, Token, is_link, memℕ}
-use Rattle.model.specs.Arrive.{Pass, emitting, nonemitting, takes, total, lower, Here, Work, Meets, cut_off_lem, vacant, better, not_better, against, meets, step_on, arriving, joined, keeps, keep, in_hand_lem, check_winner, Change, arc_cut, token_stays, token_wins, token_joins, or_else, joins_or_stays, fills, beats, loses, settle, passed, put, push, push_winner, push_joined, finish, place_of, arrive, arrive_all}
+use Rattle.model.specs.Arrive.{Pass, emitting, nonemitting, takes, total, lower, Here, Work, Meets, past_cutoff, vacant, better, not_better, against, meets, step_on, arriving, joined, keeps, keep, path_in_hand, check_winner, Change, arc_cut, token_stays, token_wins, token_joins, or_else, joins_or_stays, fills, beats, loses, settle, passed, put, push, push_winner, push_joined, finish, place_of, arrive, arrive_all}
 use Rattle.model.specs.Accepted.{Ok, then, after, branches, weaken, checked_so}
 
 -- ---- the five cases
@@ -118,7 +118,7 @@ module _ (h : Here) (p : Pass) (t : Token) (a : Arc) (w : Work) where
 
   winner_checked : Ok (λ u. Sum) (check_winner h w p t a)
   unfolding check_winner
-  winner_checked = both (tame (t.graph ⊕ a.weight)) (not (is_link (step_on h p t a 0 false) && h.limits.full (in_hand_lem h w t.path)))
+  winner_checked = both (tame (t.graph ⊕ a.weight)) (not (is_link (step_on h p t a 0 false) && h.limits.full (path_in_hand h w t.path)))
     where
       both : (b c : Bool) → Ok (λ u. b ≡ true) (check 12 b >>= λ u. check 13 c)
       both true true = refl
@@ -126,7 +126,7 @@ module _ (h : Here) (p : Pass) (t : Token) (a : Arc) (w : Work) where
       both false c = tt
 
   abbrev pub SettledBy : Meets → Change → Type 0
-  SettledBy cut_off_lem c = c ≡ arc_cut
+  SettledBy past_cutoff c = c ≡ arc_cut
   SettledBy vacant c = Small × Sum × (c ≡ token_wins (arriving h p t a w.fresh (suc w.seq) false) (suc w.seq))
   SettledBy (better gap held) c =
       Small × Sum × ((u : Token) × WithLoser h (suc w.fresh) (arriving h p t a w.fresh held.seq false) held u × (c ≡ token_wins u w.seq))
@@ -135,7 +135,7 @@ module _ (h : Here) (p : Pass) (t : Token) (a : Arc) (w : Work) where
 
   pub settle_settled : (m : Meets) → Ok (SettledBy m) (settle h p t a w m)
   unfolding settle fills beats loses
-  settle_settled cut_off_lem = refl
+  settle_settled past_cutoff = refl
   settle_settled vacant =
       then (λ u. Small) (SettledBy vacant) (check 12 (tame (total h.graph p t a))) _ (checked_so 12 (tame (total h.graph p t a))) λ u s.
       then (λ u. Sum) (SettledBy vacant) (check_winner h w p t a) _ winner_checked λ v g. (s, g, refl)
@@ -143,12 +143,12 @@ module _ (h : Here) (p : Pass) (t : Token) (a : Arc) (w : Work) where
       let new = arriving h p t a w.fresh held.seq false in
       then (λ u. Small) (SettledBy (better gap held)) (check 12 (tame (total h.graph p t a))) _ (checked_so 12 (tame (total h.graph p t a))) λ u s.
       then (λ u. Sum) (SettledBy (better gap held)) (check_winner h w p t a) _ winner_checked λ v g.
-      then (KeptAs h (suc w.fresh) new held) (SettledBy (better gap held)) (keep h (in_hand_lem h w new.path) (suc w.fresh) gap new held) _ (keep_kept h _ (suc w.fresh) gap new held) λ j q.
+      then (KeptAs h (suc w.fresh) new held) (SettledBy (better gap held)) (keep h (path_in_hand h w new.path) (suc w.fresh) gap new held) _ (keep_kept h _ (suc w.fresh) gap new held) λ j q.
       (s, g, (or_else new j, with_loser h (suc w.fresh) new held j q, refl))
   settle_settled (not_better gap held) =
       let new = arriving h p t a w.fresh 0 true in
       then (λ u. Small) (SettledBy (not_better gap held)) (check 12 (tame (total h.graph p t a))) _ (checked_so 12 (tame (total h.graph p t a))) λ u s.
-      then (KeptAs h (suc w.fresh) held new) (SettledBy (not_better gap held)) (keep h (in_hand_lem h w new.path) (suc w.fresh) gap held new) _ (keep_kept h _ (suc w.fresh) gap held new) λ j q.
+      then (KeptAs h (suc w.fresh) held new) (SettledBy (not_better gap held)) (keep h (path_in_hand h w new.path) (suc w.fresh) gap held new) _ (keep_kept h _ (suc w.fresh) gap held new) λ j q.
       (s, stays_or_joins h (suc w.fresh) held new j q)
 
   -- ---- and what `finish` makes of it
@@ -203,9 +203,9 @@ module _ (h : Here) (p : Pass) (t : Token) (a : Arc) (w : Work) where
   by_change : (m : Meets) → ((c : Change) → SettledBy m c → Ok Result (fin c)) → by m
   by_change m k = then (SettledBy m) Result (settle h p t a w m) fin (settle_settled m) k
 
-  cut_by : (w.cutoff ≼ total h.graph p t a) ≡ true → by cut_off_lem
+  cut_by : (w.cutoff ≼ total h.graph p t a) ≡ true → by past_cutoff
   unfolding finish
-  cut_by e = by_change cut_off_lem λ c q. subst (λ (x : Change). Ok Result (fin x)) (sym q) (came_cut e refl)
+  cut_by e = by_change past_cutoff λ c q. subst (λ (x : Change). Ok Result (fin x)) (sym q) (came_cut e refl)
 
   vacant_by : (w.cutoff ≼ total h.graph p t a) ≡ false → place_of w a ≡ none → by vacant
   vacant_by e o =
@@ -235,7 +235,7 @@ module _ (h : Here) (p : Pass) (t : Token) (a : Arc) (w : Work) where
       beside held e o true l = better_by e (held.cost ⊖ tot) held o l
       beside held e o false l = not_better-by e (tot ⊖ held.cost) held o l
 
-      go : (b : Bool) → (w.cutoff ≼ tot) ≡ b → (o : Option Token) → place_of w a ≡ o → by (elim b as (λ c. Meets) [ true ↦ cut_off_lem | false ↦ against tot o ])
+      go : (b : Bool) → (w.cutoff ≼ tot) ≡ b → (o : Option Token) → place_of w a ≡ o → by (elim b as (λ c. Meets) [ true ↦ past_cutoff | false ↦ against tot o ])
       go true e o q = cut_by e
       go false e none q = vacant_by e q
       go false e (some held) q = beside held e q (tot ≺ held.cost) refl

@@ -146,11 +146,11 @@ set_keep m st = elim (fair_margin m) [ true ↦ ok (record { margin = m; frames 
 
 -- The places of the lent stores: of each slice kept per state; of the record store, and of each slice kept per record; of the store for kept readings, and of each slice kept per kept reading.
 pub record Places : Type 0 where
-  pub per_state_lem : List ℕ
+  pub for_states : List ℕ
   pub records : ℕ
-  pub per_record_lem : List ℕ
+  pub for_records : List ℕ
   pub kept : ℕ
-  pub per_kept_lem : List ℕ
+  pub for_kept : List ℕ
 
 -- n places or more in each
 abbrev pub at_least : ℕ → List ℕ → Bool
@@ -161,4 +161,4 @@ unfoldable pub check_fit : Graph → Config → Places → Option ℕ
 check_fit g c ps =
     refuse 6
     (not (fair c.beam) || not (fair c.beam_delta) || leb c.max_active c.min_active ||
-    not (at_least (states g) ps.per_state_lem) || ltb 1_048_576 ps.records || not (at_least ps.records ps.per_record_lem) || not (at_least ps.kept ps.per_kept_lem))
+    not (at_least (states g) ps.for_states) || ltb 1_048_576 ps.records || not (at_least ps.records ps.for_records) || not (at_least ps.kept ps.for_kept))

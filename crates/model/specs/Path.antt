@@ -26,7 +26,7 @@ pub record Merge : Type 0 where
 -- Newest first. A branch holds the loser's whole path, branches too, beside the winner's.
 pub data Path : Type 0 where
   empty_path : Path
-  arc_on_lem : Step → Path → Path
+  arc_onto : Step → Path → Path
   branch_on : Merge → (kept : Path) → Path → Path
 
 -- the Rust's `Token`, with a path for its link
@@ -65,13 +65,13 @@ with_word w ws = cond (nonzero w) (w ∷ ws) ws
 -- the numbers of the links and branches of a path, newest first, and no kept path's
 unfoldable pub links : Path → List ℕ
 links empty_path = []
-links (arc_on_lem s p) = cond (is_link s) (s.number ∷ links p) (links p)
+links (arc_onto s p) = cond (is_link s) (s.number ∷ links p) (links p)
 links (branch_on m k p) = m.number ∷ links p
 
 -- the words of a path, newest first
 unfoldable pub words_back : Path → List ℤ
 words_back empty_path = []
-words_back (arc_on_lem s p) = with_word (word s) (words_back p)
+words_back (arc_onto s p) = with_word (word s) (words_back p)
 words_back (branch_on m k p) = words_back p
 
 abbrev pub memℕ : ℕ → List ℕ → Bool
@@ -85,13 +85,13 @@ same_words = eq_list eqℤ
 -- A path above the first of its links and branches that is among `others`: the part above the shared record.
 unfoldable pub above : List ℕ → Path → Path
 above others empty_path = empty_path
-above others (arc_on_lem s p) = cond (is_link s && memℕ s.number others) empty_path (arc_on_lem s (above others p))
+above others (arc_onto s p) = cond (is_link s && memℕ s.number others) empty_path (arc_onto s (above others p))
 above others (branch_on m k p) = cond (memℕ m.number others) empty_path (branch_on m k (above others p))
 
 -- some branch's kept history costs at most `slack`
 unfoldable pub kept_within : Float → Path → Bool
 kept_within slack empty_path = false
-kept_within slack (arc_on_lem s p) = kept_within slack p
+kept_within slack (arc_onto s p) = kept_within slack p
 kept_within slack (branch_on m k p) = m.cost ≼ slack || kept_within slack p
 
 -- above the shared record the loser has a kept history that still fits, or the words differ
@@ -106,7 +106,7 @@ worth_keeping won lost slack =
 -- the numbers of the records that a path reaches, through `prev` and through kept histories
 unfoldable pub records : Path → List ℕ
 records empty_path = []
-records (arc_on_lem s p) = cond (is_link s && not s.beside) (s.number ∷ records p) (records p)
+records (arc_onto s p) = cond (is_link s && not s.beside) (s.number ∷ records p) (records p)
 records (branch_on m k p) = m.number ∷ (records k ++ records p)
 
 abbrev pub records_of : List Path → List ℕ

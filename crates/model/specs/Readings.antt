@@ -6,7 +6,7 @@ use Rattle.std.specs.Float.Ieee.{eq}
 use Rattle.lists.specs.Lists.{keep_if, sort_by, firsts, sum}
 use Rattle.model.specs.Basics.{◌≺◌, ◌≼◌, ◌⊕◌, ◌⊖◌, ◌⊗◌, 0f, 1f, ∞, eqℤ, ltℤ, nonzero}
 use Rattle.model.specs.Graph.{Graph}
-use Rattle.model.specs.Path.{Path, empty_path, arc_on_lem, branch_on, word, with_word, same_words}
+use Rattle.model.specs.Path.{Path, empty_path, arc_onto, branch_on, word, with_word, same_words}
 use Rattle.model.specs.Passes.{State}
 use Rattle.model.specs.Reads.{graph_scale, Ranked, use_finals, sooner, ranked, trace, Group, grouped}
 use Rattle.model.specs.Hash.{hash_word}
@@ -43,7 +43,7 @@ cheapest cap bs = take cap (firsts same_key [] (sort_by (λ (a b : Below). a.cos
 -- What `fill_below` puts down for a join, its own path first; from any other place, the same with the words above the join on top. The margin is today's.
 unfoldable pub below : (margin : Float) → (cap : ℕ) → Path → List Below
 below margin cap empty_path = at_start ∷ []
-below margin cap (arc_on_lem s p) = map (on_top (word s)) (below margin cap p)
+below margin cap (arc_onto s p) = map (on_top (word s)) (below margin cap p)
 below margin cap (branch_on m k p) =
     let own = map (by_way 0f 0f []) (below margin cap p) in
     let kept = cond (m.cost ≼ margin) (map (by_way m.cost m.graph (m.number ∷ [])) (below margin cap k)) [] in
@@ -52,7 +52,7 @@ below margin cap (branch_on m k p) =
 -- the joins that this visits, each with the length of its list
 unfoldable pub visited : (margin : Float) → (cap : ℕ) → Path → List (ℕ × ℕ)
 visited margin cap empty_path = []
-visited margin cap (arc_on_lem s p) = visited margin cap p
+visited margin cap (arc_onto s p) = visited margin cap p
 visited margin cap (branch_on m k p) =
     (m.number, length (below margin cap (branch_on m k p))) ∷ (visited margin cap p ++ cond (m.cost ≼ margin) (visited margin cap k) [])
 
@@ -61,12 +61,12 @@ visited margin cap (branch_on m k p) =
 -- 0 where the path has no join; a branch's number is never 0
 abbrev pub join_number : Path → ℕ
 join_number empty_path = 0
-join_number (arc_on_lem s p) = join_number p
+join_number (arc_onto s p) = join_number p
 join_number (branch_on m k p) = m.number
 
 abbrev pub words_to_join : Path → List ℤ
 words_to_join empty_path = []
-words_to_join (arc_on_lem s p) = with_word (word s) (words_to_join p)
+words_to_join (arc_onto s p) = with_word (word s) (words_to_join p)
 words_to_join (branch_on m k p) = []
 
 abbrev pub same_head : Ranked → Ranked → Bool

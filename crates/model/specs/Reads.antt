@@ -9,7 +9,7 @@ use Rattle.lists.specs.Lists.{keep_if, sort_by, firsts}
 use Rattle.real32.specs.Least.{fmin}
 use Rattle.model.specs.Basics.{◌≺◌, ◌⊕◌, ◌⊖◌, ◌⊗◌, 0f, 1f, ∞, eqℤ, nonzero}
 use Rattle.model.specs.Graph.{Graph, is_final, final_weight}
-use Rattle.model.specs.Path.{Merge, Path, empty_path, arc_on_lem, branch_on, Token, Table, tokens, word, words_back, memℕ, same_words}
+use Rattle.model.specs.Path.{Merge, Path, empty_path, arc_onto, branch_on, Token, Table, tokens, word, words_back, memℕ, same_words}
 use Rattle.model.specs.Passes.{State}
 
 -- ---- ranks
@@ -91,7 +91,7 @@ resume n m rs = cond (not (eqℤ m.kept_phone m.phone) && ltb (suc m.frame) n &&
 -- A path's records in front of later ones, oldest first. At a branch whose number is on the route it goes down the kept path.
 unfoldable pub recs_on : (route : List ℕ) → (n : ℕ) → Path → List Rec → List Rec
 recs_on route n empty_path rs = rs
-recs_on route n (arc_on_lem s p) rs = recs_on route n p (record { frame = s.frame; word = word s; phone = s.starts } ∷ rs)
+recs_on route n (arc_onto s p) rs = recs_on route n p (record { frame = s.frame; word = word s; phone = s.starts } ∷ rs)
 recs_on route n (branch_on m k p) rs = elim (memℕ m.number route) [ true ↦ recs_on route n k (resume n m rs) | false ↦ recs_on route n p rs ]
 
 abbrev pub word_recs : List Rec → List Rec

@@ -219,8 +219,8 @@ config beam max min delta = record { beam = beam; max_active = max; min_active =
 abbrev usual : Config
 usual = config 8f 10 2 ½
 
-abbrev stores : (per_state_lem : List ℕ) → (records : ℕ) → (per_record_lem : List ℕ) → (kept : ℕ) → (per_kept_lem : List ℕ) → Places
-stores ss r rs k ks = record { per_state_lem = ss; records = r; per_record_lem = rs; kept = k; per_kept_lem = ks }
+abbrev stores : (for_states : List ℕ) → (records : ℕ) → (for_records : List ℕ) → (kept : ℕ) → (for_kept : List ℕ) → Places
+stores ss r rs k ks = record { for_states = ss; records = r; for_records = rs; kept = k; for_kept = ks }
 
 -- places for so many states, 8 records and 4 kept readings
 abbrev lent : ℕ → Places

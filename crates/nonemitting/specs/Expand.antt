@@ -55,8 +55,8 @@ any_frame ls of = record { offsets = of.offsets; ilabels = of.ilabels; olabels =
 
 -- ---- what becomes of the state
 
-abbrev expand_by_lem : Here → ℕ → Token → ModelWork → Bool → Outcome ModelWork
-expand_by_lem H s t w b = elim b as (λ z. Outcome ModelWork) [ true ↦ ok w | false ↦ arrive_all H nonemitting t (arcs_of H.graph s) w ]
+abbrev expand_arc_by : Here → ℕ → Token → ModelWork → Bool → Outcome ModelWork
+expand_arc_by H s t w b = elim b as (λ z. Outcome ModelWork) [ true ↦ ok w | false ↦ arrive_all H nonemitting t (arcs_of H.graph s) w ]
 
 module _ {g : Setting} {m : Lent} {qs eps : List ℕ} {T : Tables} {x : Work} {s : ℕ} (G : ExpandGiven g m qs eps T x s) where
   abbrev shown : Shown G.at.stood.rep.h x.used m.tokens m.sums g.side g.states G.w.table
@@ -81,11 +81,11 @@ module _ {g : Setting} {m : Lent} {qs eps : List ℕ} {T : Tables} {x : Work} {s
     source_is : SourceIs source act.token
     source_is = subst (λ (z : Stored). SourceIs z act.token) (sym (is ∙ stored_is shown act)) (record { cost = act.is.cost; graph = act.is.graph; phone = act.is.phone })
 
-    goes : {b : Bool} → (x.cutoff ≼ source.cost) ≡ b → expand_of G ≡ expand_by_lem G.H s act.token G.w b
+    goes : {b : Bool} → (x.cutoff ≼ source.cost) ≡ b → expand_of G ≡ expand_arc_by G.H s act.token G.w b
     unfolding expand
     goes {b} c =
         ap (λ (o : Option Token). expand G.H s o G.w) act.at ∙
-        ap (expand_by_lem G.H s act.token G.w) ((λ i. G.at.cutoff i ≼ sym source_is.cost i) ∙ c)
+        ap (expand_arc_by G.H s act.token G.w) ((λ i. G.at.cutoff i ≼ sym source_is.cost i) ∙ c)
 
     -- its token is at or above the cutoff
     pub expand_cut : (x.cutoff ≼ source.cost) ≡ true → By m qs (expand_of G) (On x)

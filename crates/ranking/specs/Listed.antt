@@ -65,9 +65,9 @@ abbrev pub key_in : Best → List ℕ
 key_in Nobody = []
 key_in (Token c) = key_of c ∷ []
 
-abbrev pub state_in_lem : Best → List ℕ
-state_in_lem Nobody = []
-state_in_lem (Token c) = c.state ∷ []
+abbrev pub state_among : Best → List ℕ
+state_among Nobody = []
+state_among (Token c) = c.state ∷ []
 
 pub record PutAsks (keys order : List ℕ) (n : ℕ) (best : Best) : Type 0 where
   pub keys_long : n < length keys
@@ -77,7 +77,7 @@ pub record PutAsks (keys order : List ℕ) (n : ℕ) (best : Best) : Type 0 wher
 pub record Put (keys keys' order order' : List ℕ) (n : ℕ) (best : Best) (r : ℕ) : Type 0 where
   pub few : r ≤ n + 1
   pub keys_are : take r keys' ≡ take n keys ++ key_in best
-  pub order_are : take r order' ≡ take n order ++ state_in_lem best
+  pub order_are : take r order' ≡ take n order ++ state_among best
 
 module _ {keys order : List ℕ} {n : ℕ} {best : Best} where
   pub put_nobody : best ≡ Nobody → Put keys keys order order n best n
@@ -90,8 +90,8 @@ module _ {keys order : List ℕ} {n : ℕ} {best : Best} where
 -- ---- the states whose tokens count
 
 -- whether a state has a token that counts
-abbrev pub counts_at_lem : List ℕ → (sm fs : List Float) → (side : ℕ) → (counts : Bool) → ℕ → Bool
-counts_at_lem tk sm fs b counts s = ltb 0 (held_at tk (place_in b s)) && counted (candidate_at tk sm fs b s counts)
+abbrev pub counts_in_place : List ℕ → (sm fs : List Float) → (side : ℕ) → (counts : Bool) → ℕ → Bool
+counts_in_place tk sm fs b counts s = ltb 0 (held_at tk (place_in b s)) && counted (candidate_at tk sm fs b s counts)
 
 abbrev pub key_or : Best → ℕ
 key_or Nobody = 0
@@ -104,15 +104,15 @@ key_at tk sm fs b counts s = key_or (candidate_at tk sm fs b s counts)
 -- the states below s whose tokens count are the first m, with their keys
 pub record Listed (tk : List ℕ) (sm fs : List Float) (b : ℕ) (counts : Bool) (s : ℕ) (keys order : List ℕ) (m : ℕ) : Type 0 where
   pub few : m ≤ s
-  pub keys_are : take m keys ≡ map (key_at tk sm fs b counts) (below (counts_at_lem tk sm fs b counts) s)
-  pub order_are : take m order ≡ below (counts_at_lem tk sm fs b counts) s
+  pub keys_are : take m keys ≡ map (key_at tk sm fs b counts) (below (counts_in_place tk sm fs b counts) s)
+  pub order_are : take m order ≡ below (counts_in_place tk sm fs b counts) s
 
 -- a candidate of a state is of that state
-state_of_lem : (s : ℕ) (t : Stored) (w : Float) (counts : Bool) → state_in_lem (candidate_of s t w counts) ≡ cond (counted (candidate_of s t w counts)) (s ∷ []) []
+state_of_lem : (s : ℕ) (t : Stored) (w : Float) (counts : Bool) → state_among (candidate_of s t w counts) ≡ cond (counted (candidate_of s t w counts)) (s ∷ []) []
 unfolding candidate_of
 state_of_lem s t w counts = go (finite (t.cost ⊕ w)) (record { state = s; link = t.link; seq = t.seq; rank = rank_in (t.cost ⊕ w) t.graph w counts; cost = t.cost ⊕ w }) refl
   where
-    go : (b : Bool) (c : Candidate) → c.state ≡ s → state_in_lem (cond b (Token c) Nobody) ≡ cond (counted (cond b (Token c) Nobody)) (s ∷ []) []
+    go : (b : Bool) (c : Candidate) → c.state ≡ s → state_among (cond b (Token c) Nobody) ≡ cond (counted (cond b (Token c) Nobody)) (s ∷ []) []
     go true c e = ap (λ (i : ℕ). i ∷ []) e
     go false c e = refl
 
@@ -125,7 +125,7 @@ positive zero f = absurd (f refl)
 positive (suc n) f = omega arith
 
 -- of a state with a token
-pub counts_active : (tk : List ℕ) (sm fs : List Float) (b : ℕ) (counts : Bool) (s : ℕ) → (held_at tk (place_in b s) ≡ 0 → ⊥) → counts_at_lem tk sm fs b counts s ≡ counted (candidate_at tk sm fs b s counts)
+pub counts_active : (tk : List ℕ) (sm fs : List Float) (b : ℕ) (counts : Bool) (s : ℕ) → (held_at tk (place_in b s) ≡ 0 → ⊥) → counts_in_place tk sm fs b counts s ≡ counted (candidate_at tk sm fs b s counts)
 counts_active tk sm fs b counts s d = ap (λ (x : Bool). x && counted (candidate_at tk sm fs b s counts)) (lt-ltb 0 (held_at tk (place_in b s)) (positive (held_at tk (place_in b s)) d))
 
 module _ {tk : List ℕ} {sm fs : List Float} {b : ℕ} {counts : Bool} where
@@ -137,7 +137,7 @@ module _ {tk : List ℕ} {sm fs : List Float} {b : ℕ} {counts : Bool} where
   listed_skip {s} {n} {r} {m} a l =
       let z = a.from in
       let f = l.few in
-      let e : below (counts_at_lem tk sm fs b counts) r ≡ below (counts_at_lem tk sm fs b counts) s = below_skip (counts_at_lem tk sm fs b counts) s r a.from (λ i g k. rw (a.none i g k)) in
+      let e : below (counts_in_place tk sm fs b counts) r ≡ below (counts_in_place tk sm fs b counts) s = below_skip (counts_in_place tk sm fs b counts) s r a.from (λ i g k. rw (a.none i g k)) in
       record { few = omega arith; keys_are = rw e l.keys_are; order_are = rw e l.order_are }
 
   -- a state with a token
@@ -147,7 +147,7 @@ module _ {tk : List ℕ} {sm fs : List Float} {b : ℕ} {counts : Bool} where
       rw (add-one s) record {
         few = let f = l.few in let g = p.few in omega arith;
         keys_are = p.keys_are ∙ ap₂ (λ (xs ys : List ℕ). xs ++ ys) l.keys_are (ap key_in e ∙ keys_of here_best key s refl ∙ ap (λ (x : Bool). map key (cond x (s ∷ []) [])) (sym (counts_active tk sm fs b counts s d))) ∙ sym (map-append key (below passes s) (cond (passes s) (s ∷ []) []));
-        order_are = p.order_are ∙ ap₂ (λ (xs ys : List ℕ). xs ++ ys) l.order_are (ap state_in_lem e ∙ state_of_lem s (token_of (cell_at tk sm (place_in b s))) (weight_in fs s counts) counts ∙ ap (λ (x : Bool). cond x (s ∷ []) []) (sym (counts_active tk sm fs b counts s d)));
+        order_are = p.order_are ∙ ap₂ (λ (xs ys : List ℕ). xs ++ ys) l.order_are (ap state_among e ∙ state_of_lem s (token_of (cell_at tk sm (place_in b s))) (weight_in fs s counts) counts ∙ ap (λ (x : Bool). cond x (s ∷ []) []) (sym (counts_active tk sm fs b counts s d)));
       }
     where
       here_best : Best
@@ -157,4 +157,4 @@ module _ {tk : List ℕ} {sm fs : List Float} {b : ℕ} {counts : Bool} where
       key = key_at tk sm fs b counts
 
       passes : ℕ → Bool
-      passes = counts_at_lem tk sm fs b counts
+      passes = counts_in_place tk sm fs b counts

@@ -33,7 +33,7 @@ use Rattle.traceback.specs.declared.Best.TheVariants.{Nobody, Token}
 use Rattle.traceback.specs.Ranks.{weight_in, rank_in, candidate_of, candidate_at, CandidateIs}
 use Rattle.traceback.specs.Ranking.{candidate_is, tests_same, weight_is}
 use Rattle.ranking.specs.Keys.{Keyed, keys_compare}
-use Rattle.ranking.specs.Listed.{below, below_from, below_ascending, counted, counts_at_lem, key_or, key_at, Listed, counts_active}
+use Rattle.ranking.specs.Listed.{below, below_from, below_ascending, counted, counts_in_place, key_or, key_at, Listed, counts_active}
 use Rattle.ranking.specs.Ranked.{token_in, ranked_at, RankAsks, RankedIs}
 
 -- ---- a candidate's rank and seq
@@ -84,7 +84,7 @@ module _ {h : ℕ → History} {used : ℕ} {tk : List ℕ} {sm fs : List Float}
   stands = ranked_at g counts ts
 
   abbrev passes : ℕ → Bool
-  passes = counts_at_lem tk sm fs b counts
+  passes = counts_in_place tk sm fs b counts
 
   counted_if : (f : Bool) (c : Candidate) → counted (cond f (Token c) Nobody) ≡ f
   counted_if true c = refl
@@ -158,7 +158,7 @@ module _ {h : ℕ → History} {used : ℕ} {tk : List ℕ} {sm fs : List Float}
 module _ {tk : List ℕ} {sm fs : List Float} {b n : ℕ} {counts : Bool} {keys₀ keys keys' order₀ order order' : List ℕ} {m : ℕ} (asks : RankAsks tk sm fs b n counts keys₀ order₀) (small : (i : ℕ) → get_or tk i 0 < 2 ^ 32)
     (l : Listed tk sm fs b counts n keys order m) (kept : Kept keys₀ keys' order₀ order') (sorted : Sorted keys keys' order order' m) where
   abbrev listed : List ℕ
-  listed = below (counts_at_lem tk sm fs b counts) n
+  listed = below (counts_in_place tk sm fs b counts) n
 
   lent : Lent keys' order' m
   lent =
@@ -170,7 +170,7 @@ module _ {tk : List ℕ} {sm fs : List Float} {b n : ℕ} {counts : Bool} {keys�
   sorted_each s k =
       let key = key_at tk sm fs b counts in
       let before : ℕ → ℕ → Bool = λ i j. ltb (key i) (key j) in
-      let e = sorted_keyed (λ (i : ℕ). i) key before listed (below_ascending (counts_at_lem tk sm fs b counts) n) (λ i j p q. refl) l.keys_are l.order_are lent sorted in
+      let e = sorted_keyed (λ (i : ℕ). i) key before listed (below_ascending (counts_in_place tk sm fs b counts) n) (λ i j p q. refl) l.keys_are l.order_are lent sorted in
       let (i, p, f) = map_from (λ (i : ℕ). i) listed s (sort_from before (map (λ (i : ℕ). i) listed) s (subst (λ (is : List ℕ). s ∈ is) e (map_to (λ (i : ℕ). i) (take m order') s k))) in
       subst (λ (j : ℕ). j ∈ listed) (sym f) p
 
@@ -179,9 +179,9 @@ module _ {tk : List ℕ} {sm fs : List Float} {b n : ℕ} {counts : Bool} {keys�
       record {
         few = l.few;
         each = λ s k.
-            let (i, e) = below_from (counts_at_lem tk sm fs b counts) n s (sorted_each s k) in
+            let (i, e) = below_from (counts_in_place tk sm fs b counts) n s (sorted_each s k) in
             (i, some_held (held_at tk (place_in b s)) (and_both (ltb 0 (held_at tk (place_in b s))) (counted (candidate_at tk sm fs b s counts)) e).0);
         is = λ g q h used ts w.
-            sorted_keyed (ranked_at g counts ts) (key_at tk sm fs b counts) sooner listed (below_ascending (counts_at_lem tk sm fs b counts) n) (compares w g q asks.finals counts asks small) l.keys_are l.order_are lent sorted
+            sorted_keyed (ranked_at g counts ts) (key_at tk sm fs b counts) sooner listed (below_ascending (counts_in_place tk sm fs b counts) n) (compares w g q asks.finals counts asks small) l.keys_are l.order_are lent sorted
             ∙ ap (sort_by sooner) (ranked_all w g q asks.finals counts);
       }

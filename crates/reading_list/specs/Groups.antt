@@ -27,7 +27,7 @@ use Rattle.traceback.specs.Answers.{told_by}
 use Rattle.groups.specs.Firsts.{link_at}
 use Rattle.ranking.specs.Ranked.{token_in}
 use Rattle.below.specs.Stored.{stands_for, Decoded}
-use Rattle.kept_readings.specs.Kept.{kept_in_lem}
+use Rattle.kept_readings.specs.Kept.{kept_read_in}
 use Rattle.kept_readings.specs.Meaning.{as_kept, Head, stood}
 use Rattle.routes.specs.Entries.{joins_of}
 use Rattle.routes.specs.Joins.{numbers_are, joins_routed}
@@ -144,11 +144,11 @@ module _ {tk : List ℕ} {sm fs : List Float} {rs : List ℕ} {ls : List ℤ} {g
     own_is o =
         let held = (L.each i l).own o in
         let r = rank_in S counts item in
-        let e : group item ≡ group_in S counts item = ap (λ (c : Bool). cond c (group_in S counts item) (kept_group (as_kept (rank_in S counts) L.bs (kept_in_lem khs kns kxs (item - 2_147_483_648))))) (lt-ltb item 2_147_483_648 o) in
+        let e : group item ≡ group_in S counts item = ap (λ (c : Bool). cond c (group_in S counts item) (kept_group (as_kept (rank_in S counts) L.bs (kept_read_in khs kns kxs (item - 2_147_483_648))))) (lt-ltb item 2_147_483_648 o) in
         let head : Head S.g tk b n counts S.st.table item = record { inside = held.0; held = held.1; counted = ap (λ (x : Group). finite x.cost) (sym e) ∙ finite_at i l } in
         let s = stood S.shown S.g S.finals S.long counts item head in
         let q : reads item ≡ record { state = item; entry = 0; rank = r.rank; cost = r.cost } =
-        ap (λ (c : Bool). cond c (own_reading (candidate_at tk sm fs b item counts)) (kept_reading (kept_in_lem khs kns kxs (item - 2_147_483_648)))) (lt-ltb item 2_147_483_648 o) ∙ ap own_reading s.is
+        ap (λ (c : Bool). cond c (own_reading (candidate_at tk sm fs b item counts)) (kept_reading (kept_read_in khs kns kxs (item - 2_147_483_648)))) (lt-ltb item 2_147_483_648 o) ∙ ap own_reading s.is
         ∙ (λ t. record { state = s.head.state t; entry = 0; rank = s.head.rank t; cost = s.head.cost t }) in
         subst (λ (x : Group). Stand (reads item) x) (sym e)
         (subst (λ (g : Reading). Stand g (group_in S counts item)) (sym q)

@@ -8,7 +8,7 @@ use Rattle.traceback.specs.Trail.{Trail, no_trail}
 use Rattle.traceback.specs.Chain.{Walkable, trail_from}
 use Rattle.groups.specs.Firsts.{link_at}
 use Rattle.kept_readings.specs.declared.KeptReading.{KeptReading}
-use Rattle.kept_readings.specs.Kept.{kept_in_lem, Room}
+use Rattle.kept_readings.specs.Kept.{kept_read_in, Room}
 use Rattle.routes.specs.Entries.{joins_of, RouteAsks}
 use Rattle.merged.specs.Items.{OwnAsks}
 use Rattle.reading_list.specs.declared.Reading.{Reading}
@@ -22,7 +22,7 @@ kept_reading k = record { state = k.state; entry = k.entry; rank = k.rank; cost 
 
 -- a state's own group, or from 2 ^ 31 on a kept reading
 unfoldable pub item_reading : List ℕ → (sm fs : List Float) → (side : ℕ) → (counts : Bool) → (khs kns : List ℕ) → List Float → ℕ → Reading
-item_reading tk sm fs b counts khs kns kxs i = cond (ltb i 2_147_483_648) (own_reading (candidate_at tk sm fs b i counts)) (kept_reading (kept_in_lem khs kns kxs (i - 2_147_483_648)))
+item_reading tk sm fs b counts khs kns kxs i = cond (ltb i 2_147_483_648) (own_reading (candidate_at tk sm fs b i counts)) (kept_reading (kept_read_in khs kns kxs (i - 2_147_483_648)))
 
 -- its state or its kept reading has its places
 pub record ItemAsks (tk : List ℕ) (sm fs : List Float) (b : ℕ) (khs kns : List ℕ) (kxs : List Float) (i : ℕ) : Type 0 where

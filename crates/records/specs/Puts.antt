@@ -4,7 +4,7 @@ use Rattle.std.proofs.Common.{sym, ap₂, subst, add-one}
 use Rattle.std.proofs.lemmas.List.Edits.{sets}
 use Rattle.model.specs.Basics.{nonzero}
 use Rattle.records.specs.declared.Kept.{Kept}
-use Rattle.records.specs.History.{History, link_on_lem, join_on, tag}
+use Rattle.records.specs.History.{History, link_onto, join_on, tag}
 use Rattle.records.specs.Layout.{Store, store, beside_in}
 use Rattle.records.specs.Stands.{Stands, put}
 use Rattle.records.specs.Writes.{link_numbers, join_numbers, link_stands, join_stands}
@@ -13,7 +13,7 @@ use Rattle.records.specs.Writes.{link_numbers, join_numbers, link_stands, join_s
 pub record LinkPut (rs rs' : List ℕ) (ls ls' : List ℤ) (n prev frame : ℕ) (word : ℤ) (starts r : ℕ) : Type 0 where
   pub number : r ≡ suc n
   pub stands : (gs : List Float) (h : ℕ → History) (m : ℕ) → Stands (store rs ls gs) n h → tag (h n) ≤ m → prev ≤ n → (nonzero word || nonzero (pos starts)) ≡ true
-      → Stands (store rs' ls' gs) (suc n) (put h (suc n) (link_on_lem m frame word (pos starts) (h prev)))
+      → Stands (store rs' ls' gs) (suc n) (put h (suc n) (link_onto m frame word (pos starts) (h prev)))
 
 pub record JoinPut (s s' : Store) (n prev frame : ℕ) (k : Kept) (r : ℕ) : Type 0 where
   pub number : r ≡ suc n
@@ -26,7 +26,7 @@ module _ (rs rs' : List ℕ) (ls ls' : List ℤ) (n p f : ℕ) where
   link_put w st r l e d =
       record {
         number = add-one n;
-        stands = λ gs h m ok new low k. subst (λ (x : Store). Stands x (suc n) (put h (suc n) (link_on_lem m f w (pos st) (h p)))) (ap₂ (λ (a : List ℕ) (b : List ℤ). store a b gs) (sym e) (sym d))
+        stands = λ gs h m ok new low k. subst (λ (x : Store). Stands x (suc n) (put h (suc n) (link_onto m f w (pos st) (h p)))) (ap₂ (λ (a : List ℕ) (b : List ℤ). store a b gs) (sym e) (sym d))
             (link_stands (store rs ls gs) n p f r l h m ok new low w st k);
       }
 

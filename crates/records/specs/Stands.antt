@@ -2,11 +2,11 @@
 use Rattle.std.specs.Prelude.{◌≡◌, refl, ℕ, suc, ◌≤◌, ◌<◌, Bool, true, false, cond, eqb}
 use Rattle.std.proofs.Common.{sym, ◌∙◌, subst, arith, eq-eqb, ne_eqb}
 use Rattle.lists.specs.Tests.{case, lt_or_le}
-use Rattle.records.specs.History.{History, no_history, link_on_lem, join_on, tag}
+use Rattle.records.specs.History.{History, no_history, link_onto, join_on, tag}
 use Rattle.records.specs.Layout.{Store, Rec, rec_at, is_link_rec}
 
 abbrev pub top_by : Bool → Rec → ℕ → (below kept : History) → History
-top_by true r n below kept = link_on_lem n r.frame r.word r.starts below
+top_by true r n below kept = link_onto n r.frame r.word r.starts below
 top_by false r n below kept = join_on n r.frame r.beside kept below
 
 -- the history of a record that has this number in the model

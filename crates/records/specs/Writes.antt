@@ -10,7 +10,7 @@ use Rattle.lists.specs.Tests.{never}
 use Rattle.lists.specs.Sets.{sets_off, sets_on, sets_first}
 use Rattle.model.specs.Basics.{nonzero}
 use Rattle.records.specs.declared.Kept.{Kept}
-use Rattle.records.specs.History.{History, link_on_lem, join_on, tag}
+use Rattle.records.specs.History.{History, link_onto, join_on, tag}
 use Rattle.records.specs.Layout.{Store, store, Rec, rec_at, beside_in}
 use Rattle.records.specs.Stands.{Stands, put, top, top_by, stands_put}
 
@@ -55,17 +55,17 @@ module _ (s : Store) (n p f : ℕ) where
   abbrev link_rec : ℤ → ℕ → Store → Rec
   link_rec w st z = record { prev = p; frame = f; kept = 0; word = w; starts = pos st; beside = (rec_at z n).beside }
 
-  abbrev pub link_put_lem : ℤ → ℕ → Store
-  link_put_lem w st = store (sets s.records (n * 8) (link_numbers p f st)) (sets s.labels (n * 2) (w ∷ [])) s.gaps
+  abbrev pub link_written : ℤ → ℕ → Store
+  link_written w st = store (sets s.records (n * 8) (link_numbers p f st)) (sets s.labels (n * 2) (w ∷ [])) s.gaps
 
   abbrev join_rec : Kept → Rec
   join_rec k = record { prev = p; frame = f; kept = k.link; word = pos 0; starts = pos 0; beside = beside_in k }
 
-  abbrev pub join_put_lem : Kept → Store
-  join_put_lem k = store (sets s.records (n * 8) (join_numbers p f k)) (sets s.labels (n * 2) (pos 0 ∷ k.word ∷ [])) (sets s.gaps (n * 2) (k.cost ∷ k.graph ∷ []))
+  abbrev pub join_written : Kept → Store
+  join_written k = store (sets s.records (n * 8) (join_numbers p f k)) (sets s.labels (n * 2) (pos 0 ∷ k.word ∷ [])) (sets s.gaps (n * 2) (k.cost ∷ k.graph ∷ []))
 
   module _ (r : n * 8 + 8 ≤ length s.records) (l : n * 2 + 2 ≤ length s.labels) where
-    link_is : (w : ℤ) (st : ℕ) → rec_at (link_put_lem w st) n ≡ link_rec w st (link_put_lem w st)
+    link_is : (w : ℤ) (st : ℕ) → rec_at (link_written w st) n ≡ link_rec w st (link_written w st)
     unfolding rec_at
     link_is w st =
         let vs = link_numbers p f st in
@@ -76,10 +76,10 @@ module _ (s : Store) (n p f : ℕ) where
           kept = at 3 (omega arith) i;
           word = sets_first (w ∷ []) s.labels (n * 2) (pos 0) (omega arith) (omega arith) i;
           starts = pos (at 2 (omega arith) i);
-          beside = (rec_at (link_put_lem w st) n).beside;
+          beside = (rec_at (link_written w st) n).beside;
         }
 
-    join_is : n * 2 + 2 ≤ length s.gaps → (k : Kept) → rec_at (join_put_lem k) n ≡ join_rec k
+    join_is : n * 2 + 2 ≤ length s.gaps → (k : Kept) → rec_at (join_written k) n ≡ join_rec k
     unfolding rec_at
     join_is g k =
         let vs = join_numbers p f k in
@@ -103,12 +103,12 @@ module _ (s : Store) (n p f : ℕ) where
         }
 
     module _ (h : ℕ → History) (m : ℕ) (ok : Stands s n h) (new : tag (h n) ≤ m) (low : p ≤ n) where
-      pub link_stands : (w : ℤ) (st : ℕ) → (nonzero w || nonzero (pos st)) ≡ true → Stands (link_put_lem w st) (suc n) (put h (suc n) (link_on_lem m f w (pos st) (h p)))
+      pub link_stands : (w : ℤ) (st : ℕ) → (nonzero w || nonzero (pos st)) ≡ true → Stands (link_written w st) (suc n) (put h (suc n) (link_onto m f w (pos st) (h p)))
       link_stands w st e =
-          let r = link_rec w st (link_put_lem w st) in
-          let v : top r m (h p) (h 0) ≡ link_on_lem m f w (pos st) (h p) = ap (λ b. top_by b r m (h p) (h 0)) e in
-          rw v at (stands_put s (link_put_lem w st) n h m (λ k d. record_off k n d (link_numbers p f st) (w ∷ []) [] s) ok new r (link_is w st) low (omega arith) (λ t. refl))
+          let r = link_rec w st (link_written w st) in
+          let v : top r m (h p) (h 0) ≡ link_onto m f w (pos st) (h p) = ap (λ b. top_by b r m (h p) (h 0)) e in
+          rw v at (stands_put s (link_written w st) n h m (λ k d. record_off k n d (link_numbers p f st) (w ∷ []) [] s) ok new r (link_is w st) low (omega arith) (λ t. refl))
 
-      pub join_stands : n * 2 + 2 ≤ length s.gaps → (k : Kept) → k.link ≤ n → Stands (join_put_lem k) (suc n) (put h (suc n) (join_on m f (beside_in k) (h k.link) (h p)))
+      pub join_stands : n * 2 + 2 ≤ length s.gaps → (k : Kept) → k.link ≤ n → Stands (join_written k) (suc n) (put h (suc n) (join_on m f (beside_in k) (h k.link) (h p)))
       join_stands g k q =
-          stands_put s (join_put_lem k) n h m (λ j d. record_off j n d (join_numbers p f k) (pos 0 ∷ k.word ∷ []) (k.cost ∷ k.graph ∷ []) s) ok new (join_rec k) (join_is g k) low q (λ t. never t)
+          stands_put s (join_written k) n h m (λ j d. record_off j n d (join_numbers p f k) (pos 0 ∷ k.word ∷ []) (k.cost ∷ k.graph ∷ []) s) ok new (join_rec k) (join_is g k) low q (λ t. never t)

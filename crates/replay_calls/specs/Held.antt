@@ -10,7 +10,7 @@ use Rattle.checks.specs.Margin.{asked}
 use Rattle.decoder.specs.declared.Decoder.{Decoder}
 use Rattle.decoder.specs.declared.Called.{Called}
 use Rattle.decoder.specs.declared.Fitted.{Fitted}
-use Rattle.decoder.specs.Contracts.{Promised, keep_of}
+use Rattle.decoder.specs.Promises.{Promised, keep_of}
 use Rattle.decoder.specs.Behaves.{value_of}
 use Rattle.decoder.specs.Keep.{keep_is}
 use Rattle.replay_places.specs.Held.{Held, HeldFitted, call_held}

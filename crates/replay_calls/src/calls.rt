@@ -3,7 +3,7 @@ ghost use Rattle.std.specs.Prelude.{◌≡◌, length};
 ghost use Rattle.stores.specs.Rep.{lent};
 ghost use Rattle.nonemitting.specs.Expand.{graph_tables};
 ghost use Rattle.decoder.specs.Represents.{Left};
-ghost use Rattle.decoder.specs.Contracts.{FrameLeft};
+ghost use Rattle.decoder.specs.Promises.{FrameLeft};
 ghost use Rattle.replay_places.specs.Held.{HeldFitted};
 ghost use Rattle.replay_payloads.specs.Payloads.{Inside};
 ghost use Rattle.replay_calls.specs.Held.{GoesOn, GoesOnAll};

@@ -13,7 +13,7 @@ use Rattle.decoder.specs.declared.Decoder.{Decoder}
 use Rattle.decoder.specs.declared.Called.{Called}
 use Rattle.decoder.specs.declared.Fitted.{Fitted}
 use Rattle.decoder.specs.declared.Fitted.TheVariants.{Unfit, Done, Refused}
-use Rattle.decoder.specs.Contracts.{Promised, FitIs, FrameLeft}
+use Rattle.decoder.specs.Promises.{Promised, FitIs, FrameLeft}
 use Rattle.decoder.specs.Behaves.{value_of}
 use Rattle.decoder.specs.Held.{Held as Holds, HeldFitted as HoldsFitted, held_asked, call_held as call-holds, fit_held as fit-holds}
 

@@ -1,5 +1,5 @@
 // The best path.
-ghost use Rattle.decoder.specs.Contracts.{FinalsLeft};
+ghost use Rattle.decoder.specs.Promises.{FinalsLeft};
 ghost use Rattle.replay_payloads.specs.Payloads.{Inside};
 
 use crate::calls::answer_best;

@@ -1,5 +1,5 @@
 // The decoder's reads, each with the scratch that it works in.
-ghost use Rattle.decoder.specs.Contracts.{FinalsLeft, RelativeLeft};
+ghost use Rattle.decoder.specs.Promises.{FinalsLeft, RelativeLeft};
 ghost use Rattle.replay_payloads.specs.Lent.{LengthsWithin};
 ghost use Rattle.replay_reads.specs.Reads.{PathsLeft, OutputHere, ListLeft};
 

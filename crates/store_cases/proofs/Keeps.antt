@@ -16,7 +16,7 @@ use Rattle.tokens.specs.declared.Token.{Token}
 use Rattle.tokens.specs.Layout.{place_in, active_in, block_of, bit_of, bit_at, held_by, held_at, Cell, cell_at, TokenPut, Cleared}
 use Rattle.tokens.specs.Held.{held_same}
 use Rattle.records.specs.declared.Kept.{Kept}
-use Rattle.records.specs.History.{History, no_history, link_on_lem, join_on, tag}
+use Rattle.records.specs.History.{History, no_history, link_onto, join_on, tag}
 use Rattle.records.specs.Layout.{Store, store, beside_in}
 use Rattle.records.specs.Stands.{Stands, put, stands_none}
 use Rattle.records.specs.Shape.{shape_of}
@@ -45,7 +45,7 @@ pub put_link : (rs rs' : List ℕ) (ls ls' : List ℤ) (n prev frame st r cap : 
     → (gs : List Float) → RecordsPut (store rs ls gs) (store rs' ls' gs) n r cap
 put_link rs rs' ls ls' n prev frame st r cap w l low link p gs =
     put_one (store rs ls gs) (store rs' ls' gs) n r cap p.number l
-    (λ h ok. (put h (suc n) (link_on_lem (tag (h n)) frame w (pos st) (h prev)), p.stands gs h (tag (h n)) ok (omega arith) low link))
+    (λ h ok. (put h (suc n) (link_onto (tag (h n)) frame w (pos st) (h prev)), p.stands gs h (tag (h n)) ok (omega arith) low link))
 
 pub put_join : (s s' : Store) (n prev frame r cap : ℕ) (k : Kept) → n < cap → prev ≤ n → k.link ≤ n → JoinPut s s' n prev frame k r → RecordsPut s s' n r cap
 put_join s s' n prev frame r cap k l low kept p =

@@ -3,7 +3,7 @@ use Rattle.std.specs.Prelude.{◌≡◌, refl, ℕ, zero, suc, ◌-◌, ◌≤�
 use Rattle.std.proofs.Common.{sym, ◌∙◌, ap, arith}
 use Rattle.std.proofs.Math.Option.{Option, none, some}
 use Rattle.lists.specs.Tests.{never, and_both}
-use Rattle.model.specs.Path.{Path, empty_path, arc_on_lem, branch_on, Token, Table}
+use Rattle.model.specs.Path.{Path, empty_path, arc_onto, branch_on, Token, Table}
 use Rattle.tokens.specs.declared.Token.{Token as Stored}
 use Rattle.tokens.specs.Layout.{Cell, cell_at, cell_of, place_in}
 use Rattle.records.specs.History.{History, no_history, history_of, plain}
@@ -11,12 +11,12 @@ use Rattle.records.specs.History.{History, no_history, history_of, plain}
 -- Of a kept path: an arc that is held beside the join has the join's frame, and below it nothing is held beside one.
 abbrev pub beside_in : (frame : ℕ) → Path → Type 0
 beside_in f empty_path = Unit {0}
-beside_in f (arc_on_lem s p) = (s.beside ≡ true → s.frame ≡ f) × (plain p ≡ true)
+beside_in f (arc_onto s p) = (s.beside ≡ true → s.frame ≡ f) × (plain p ≡ true)
 beside_in f (branch_on m k p) = plain p ≡ true
 
 abbrev pub timed : Path → Type 0
 timed empty_path = Unit {0}
-timed (arc_on_lem s p) = timed p
+timed (arc_onto s p) = timed p
 timed (branch_on m k p) = beside_in m.frame k × timed k × timed p
 
 -- Record number l, of those in use, stands for a path; on a token's own path no arc is held beside a join.
@@ -61,5 +61,5 @@ sides_apart (suc (suc b)) r s l e = omega arith
 pub none_beside : (f : ℕ) (p : Path) → plain p ≡ true → beside_in f p
 unfolding plain
 none_beside f empty_path e = tt
-none_beside f (arc_on_lem s p) e = let d = and_both (not s.beside) (plain p) e in (λ b. never (sym (ap not b) ∙ d.0), d.1)
+none_beside f (arc_onto s p) e = let d = and_both (not s.beside) (plain p) e in (λ b. never (sym (ap not b) ∙ d.0), d.1)
 none_beside f (branch_on m k p) e = e

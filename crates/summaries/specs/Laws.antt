@@ -7,7 +7,7 @@ use mathlib.Core.List.{List, []}
 use Rattle.lists.specs.Tests.{case, lt_or_le, or_neither}
 use Rattle.model.specs.Basics.{nonzero}
 use Rattle.model.specs.Path.{with_word}
-use Rattle.records.specs.History.{History, no_history, link_on_lem, join_on, tag}
+use Rattle.records.specs.History.{History, no_history, link_onto, join_on, tag}
 use Rattle.records.specs.Layout.{Rec, Store, store, rec_at, is_link_rec, prev_at, word_at}
 use Rattle.records.specs.Stands.{Stands, top, top_by}
 use Rattle.joins.specs.Worth.{words_of, above_of}
@@ -25,7 +25,7 @@ words_down k x = words_of (above_of (under k) x)
 pub down_none : (k : ℕ) (t : History) → tag t ≤ k → words_down k t ≡ []
 unfolding above_of under tag words_of
 down_none k no_history l = refl
-down_none k (link_on_lem n f w st t) l = simp (lt-ltb n k l)
+down_none k (link_onto n f w st t) l = simp (lt-ltb n k l)
 down_none k (join_on n f b q t) l = simp (lt-ltb n k l)
 
 -- ---- one record on top

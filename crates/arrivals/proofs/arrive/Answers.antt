@@ -15,7 +15,7 @@ pub make_room-made-requires : goal.make_room-made-requires
 make_room-made-requires c = (c.requires.pass.few, rw c.with_link.ensures (room_asks _ _ _ _ _ _ c.requires))
 
 pub settle-requires : goal.settle-requires
-settle-requires c = let G = c.requires in let z = target_room _ _ _ _ _ _ G in let k = c.make_room-made.auto.tokens in ((G.pass.side, omega arith, z.1), rw c.with_link-2.ensures (then_asks _ _ _ _ _ _ G (ap is_cut_off (sym c.meet-met.ensures) ∙ sym c.is_cut.ensures ∙ c.if-is_cut.false) (sym c.is_tame.ensures ∙ c.if-not-is_tame.false) _ _ _ _ c.make_room-made.auto.tokens c.make_room-made.auto.records c.make_room-made.auto.labels c.make_room-made.auto.gaps _ (rw c.with_link.ensures at c.make_room-made.ensures)))
+settle-requires c = let G = c.requires in let z = target_room _ _ _ _ _ _ G in let k = c.make_room-made.auto.tokens in record { side_bound = (G.pass.side, omega arith, z.1); settle_asks = rw c.with_link-2.ensures (then_asks _ _ _ _ _ _ G (ap is_cut_off (sym c.meet-met.ensures) ∙ sym c.is_cut.ensures ∙ c.if-is_cut.false) (sym c.is_tame.ensures ∙ c.if-not-is_tame.false) _ _ _ _ c.make_room-made.auto.tokens c.make_room-made.auto.records c.make_room-made.auto.labels c.make_room-made.auto.gaps _ (rw c.with_link.ensures at c.make_room-made.ensures)) }
 
 pub put_token-requires : goal.put_token-requires
 put_token-requires c = let G = c.requires in let z = target_room _ _ _ _ _ _ G in let k = c.make_room-made.auto.tokens in (G.pass.side, omega arith, z.1)
@@ -24,37 +24,13 @@ pub put_token-requires-in-Joins : goal.put_token-requires-in-Joins
 put_token-requires-in-Joins c = let G = c.requires in let z = target_room _ _ _ _ _ _ G in let k = c.make_room-made.auto.tokens in (G.pass.side, omega arith, z.1)
 
 pub returns-in-Refused : goal.returns-in-Refused
-returns-in-Refused c = λ G. arrived _ _ _ _ _ _ G (ap is_cut_off (sym c.meet-met.ensures) ∙ sym c.is_cut.ensures ∙ c.if-is_cut.false) (sym c.is_tame.ensures ∙ c.if-not-is_tame.false) _ _ _ _ c.make_room-made.auto.tokens c.make_room-made.auto.records c.make_room-made.auto.labels c.make_room-made.auto.gaps _ (rw c.with_link.ensures at c.make_room-made.ensures) _ _ _ c.settle.auto.gaps c.settle.auto.1.1.1.0 c.settle.auto.1.1.1.1.0 _ (rw (c.with_link-2.ensures, c.meet-met.ensures, c.in-Refused.is) at c.settle.ensures)
+returns-in-Refused c = λ G. arrived _ _ _ _ _ _ G (ap is_cut_off (sym c.meet-met.ensures) ∙ sym c.is_cut.ensures ∙ c.if-is_cut.false) (sym c.is_tame.ensures ∙ c.if-not-is_tame.false) _ _ _ _ c.make_room-made.auto.tokens c.make_room-made.auto.records c.make_room-made.auto.labels c.make_room-made.auto.gaps _ (rw c.with_link.ensures at c.make_room-made.ensures) _ _ _ c.settle.auto.records c.settle.auto.labels c.settle.auto.gaps _ (rw (c.with_link-2.ensures, c.meet-met.ensures, c.in-Refused.is) at c.settle.ensures)
 
 pub returns-in-Stays : goal.returns-in-Stays
-returns-in-Stays c = λ G. arrived _ _ _ _ _ _ G (ap is_cut_off (sym c.meet-met.ensures) ∙ sym c.is_cut.ensures ∙ c.if-is_cut.false) (sym c.is_tame.ensures ∙ c.if-not-is_tame.false) _ _ _ _ c.make_room-made.auto.tokens c.make_room-made.auto.records c.make_room-made.auto.labels c.make_room-made.auto.gaps _ (rw c.with_link.ensures at c.make_room-made.ensures) _ _ _ c.settle.auto.gaps c.settle.auto.1.1.1.0 c.settle.auto.1.1.1.1.0 _ (rw (c.with_link-2.ensures, c.meet-met.ensures, c.in-Stays.is) at c.settle.ensures)
-
-pub shape_of-tokens-in-Wins : goal.shape_of-tokens-in-Wins
-shape_of-tokens-in-Wins c = c.put_token.auto.tokens ∙ c.make_room-made.auto.tokens
-
-pub shape_of-records-in-Wins : goal.shape_of-records-in-Wins
-shape_of-records-in-Wins c = c.settle.auto.gaps ∙ c.make_room-made.auto.records
-
-pub shape_of-labels-in-Wins : goal.shape_of-labels-in-Wins
-shape_of-labels-in-Wins c = c.settle.auto.1.1.1.0 ∙ c.make_room-made.auto.labels
-
-pub shape_of-gaps-in-Wins : goal.shape_of-gaps-in-Wins
-shape_of-gaps-in-Wins c = c.settle.auto.1.1.1.1.0 ∙ c.make_room-made.auto.gaps
+returns-in-Stays c = λ G. arrived _ _ _ _ _ _ G (ap is_cut_off (sym c.meet-met.ensures) ∙ sym c.is_cut.ensures ∙ c.if-is_cut.false) (sym c.is_tame.ensures ∙ c.if-not-is_tame.false) _ _ _ _ c.make_room-made.auto.tokens c.make_room-made.auto.records c.make_room-made.auto.labels c.make_room-made.auto.gaps _ (rw c.with_link.ensures at c.make_room-made.ensures) _ _ _ c.settle.auto.records c.settle.auto.labels c.settle.auto.gaps _ (rw (c.with_link-2.ensures, c.meet-met.ensures, c.in-Stays.is) at c.settle.ensures)
 
 pub returns-in-Wins : goal.returns-in-Wins
-returns-in-Wins c = λ G. arrived _ _ _ _ _ _ G (ap is_cut_off (sym c.meet-met.ensures) ∙ sym c.is_cut.ensures ∙ c.if-is_cut.false) (sym c.is_tame.ensures ∙ c.if-not-is_tame.false) _ _ _ _ c.make_room-made.auto.tokens c.make_room-made.auto.records c.make_room-made.auto.labels c.make_room-made.auto.gaps _ (rw c.with_link.ensures at c.make_room-made.ensures) _ _ _ c.settle.auto.gaps c.settle.auto.1.1.1.0 c.settle.auto.1.1.1.1.0 _ (rw (c.with_link-2.ensures, c.meet-met.ensures, c.in-Wins.is) at c.settle.ensures) _ _ c.put_token.auto.tokens c.put_token.auto.sums c.put_token.ensures
-
-pub shape_of-tokens-in-Joins : goal.shape_of-tokens-in-Joins
-shape_of-tokens-in-Joins c = c.put_token-in-Joins.auto.tokens ∙ c.make_room-made.auto.tokens
-
-pub shape_of-records-in-Joins : goal.shape_of-records-in-Joins
-shape_of-records-in-Joins c = c.settle.auto.gaps ∙ c.make_room-made.auto.records
-
-pub shape_of-labels-in-Joins : goal.shape_of-labels-in-Joins
-shape_of-labels-in-Joins c = c.settle.auto.1.1.1.0 ∙ c.make_room-made.auto.labels
-
-pub shape_of-gaps-in-Joins : goal.shape_of-gaps-in-Joins
-shape_of-gaps-in-Joins c = c.settle.auto.1.1.1.1.0 ∙ c.make_room-made.auto.gaps
+returns-in-Wins c = λ G. arrived _ _ _ _ _ _ G (ap is_cut_off (sym c.meet-met.ensures) ∙ sym c.is_cut.ensures ∙ c.if-is_cut.false) (sym c.is_tame.ensures ∙ c.if-not-is_tame.false) _ _ _ _ c.make_room-made.auto.tokens c.make_room-made.auto.records c.make_room-made.auto.labels c.make_room-made.auto.gaps _ (rw c.with_link.ensures at c.make_room-made.ensures) _ _ _ c.settle.auto.records c.settle.auto.labels c.settle.auto.gaps _ (rw (c.with_link-2.ensures, c.meet-met.ensures, c.in-Wins.is) at c.settle.ensures) _ _ c.put_token.auto.tokens c.put_token.auto.sums c.put_token.ensures
 
 pub returns-in-Joins : goal.returns-in-Joins
-returns-in-Joins c = λ G. arrived _ _ _ _ _ _ G (ap is_cut_off (sym c.meet-met.ensures) ∙ sym c.is_cut.ensures ∙ c.if-is_cut.false) (sym c.is_tame.ensures ∙ c.if-not-is_tame.false) _ _ _ _ c.make_room-made.auto.tokens c.make_room-made.auto.records c.make_room-made.auto.labels c.make_room-made.auto.gaps _ (rw c.with_link.ensures at c.make_room-made.ensures) _ _ _ c.settle.auto.gaps c.settle.auto.1.1.1.0 c.settle.auto.1.1.1.1.0 _ (rw (c.with_link-2.ensures, c.meet-met.ensures, c.in-Joins.is) at c.settle.ensures) _ _ c.put_token-in-Joins.auto.tokens c.put_token-in-Joins.auto.sums c.put_token-in-Joins.ensures
+returns-in-Joins c = λ G. arrived _ _ _ _ _ _ G (ap is_cut_off (sym c.meet-met.ensures) ∙ sym c.is_cut.ensures ∙ c.if-is_cut.false) (sym c.is_tame.ensures ∙ c.if-not-is_tame.false) _ _ _ _ c.make_room-made.auto.tokens c.make_room-made.auto.records c.make_room-made.auto.labels c.make_room-made.auto.gaps _ (rw c.with_link.ensures at c.make_room-made.ensures) _ _ _ c.settle.auto.records c.settle.auto.labels c.settle.auto.gaps _ (rw (c.with_link-2.ensures, c.meet-met.ensures, c.in-Joins.is) at c.settle.ensures) _ _ c.put_token-in-Joins.auto.tokens c.put_token-in-Joins.auto.sums c.put_token-in-Joins.ensures

@@ -4,10 +4,10 @@ use Rattle.arrivals.specs.Settled.{settled_cut, settled_fills, settled_beats, se
 use Rattle.arrivals.proofs.settle.Goals as goal
 
 pub beat-requires : goal.beat-requires
-beat-requires c = rw c.token_at-held.ensures c.requires.1
+beat-requires c = rw c.token_at-held.ensures c.requires.settle_asks
 
 pub lose-requires : goal.lose-requires
-lose-requires c = rw c.token_at-held-in-NotBetter.ensures c.requires.1
+lose-requires c = rw c.token_at-held-in-NotBetter.ensures c.requires.settle_asks
 
 pub returns-in-CutOff : goal.returns-in-CutOff
 returns-in-CutOff c = rw c.in-CutOff.is (settled_cut refl)

@@ -11,7 +11,7 @@ use borrow.Author.Tests.{lt-ltb, le-ltb}
 use Rattle.places.specs.Places.{least}
 use Rattle.checks.specs.declared.Lengths.{Lengths}
 use Rattle.model.specs.Passes.{at_least}
-use Rattle.checks.specs.Fit.{record_places, kept_places_of, per_kept_lem, scratch_wrong, least_each, least_under, wrong_first, wrong_next, too_few, enough}
+use Rattle.checks.specs.Fit.{record_places, kept_places_of, for_kept, scratch_wrong, least_each, least_under, wrong_first, wrong_next, too_few, enough}
 use Rattle.checks.proofs.stores_wrong.Goals as goal
 
 abbrev others : Lengths → List ℕ
@@ -30,7 +30,7 @@ pub returns-then-fewest_per_record-records : goal.returns-then-fewest_per_record
 returns-then-fewest_per_record-records c = let l = c.args.l in
     wrong_next (enough c.args.states (l.tokens / 8) (others l) c.fewest_per_state.ensures c.if-fewest_per_state-states.left)
     (wrong_next (sym (ap (ltb 1_048_576) c.record_places-records.ensures) ∙ le-ltb 1_048_576 c.record_places-records.result c.if-records-gt-MAX_RECORDS.left)
-    (wrong_first (not (at_least (kept_places_of l) (per_kept_lem c.args.states l))) (too_few (record_places l) (l.lists / 2) (records l) c.fewest_per_record.ensures (let e = c.record_places-records.ensures in let h = c.if-fewest_per_record-records.taken in omega arith))))
+    (wrong_first (not (at_least (kept_places_of l) (for_kept c.args.states l))) (too_few (record_places l) (l.lists / 2) (records l) c.fewest_per_record.ensures (let e = c.record_places-records.ensures in let h = c.if-fewest_per_record-records.taken in omega arith))))
 
 pub overflow_sub-l : goal.overflow_sub-l
 overflow_sub-l c = let l = c.args.l in let z = least_each (l.tokens / 8) (others l) l.list (there (there (there (there (there (there (there (there (here refl))))))))) in let e = c.fewest_per_state.ensures in let h = c.if-fewest_per_state-states.left in omega arith

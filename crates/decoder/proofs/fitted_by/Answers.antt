@@ -1,6 +1,6 @@
 -- By the answer of the start.
 use mathlib.Core.Path.{sym, ap}
-use Rattle.decoder.specs.Contracts.{fitted_by}
+use Rattle.decoder.specs.Promises.{fitted_by}
 use Rattle.decoder.proofs.fitted_by.Goals as goal
 
 pub returns-in-Done : goal.returns-in-Done

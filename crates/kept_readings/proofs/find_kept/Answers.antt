@@ -1,7 +1,7 @@
 -- No place so far has its words.
 use Rattle.std.proofs.Common.{◌≡◌, ℕ, ◌-◌, false, sym, ap, ◌∙◌, arith}
 use Rattle.lists.specs.Tests.{next_fits, below_more}
-use Rattle.kept_readings.specs.Kept.{kept_in_lem, same_kept}
+use Rattle.kept_readings.specs.Kept.{kept_read_in, same_kept}
 use Rattle.kept_readings.proofs.find_kept.Goals as goal
 
 pub loop-i-init : goal.loop-i-init
@@ -23,7 +23,7 @@ pub loop-i-smaller : goal.loop-i-smaller
 loop-i-smaller c = let t = c.loop-i-test.true in omega arith
 
 pub loop-i-preserved : goal.loop-i-preserved
-loop-i-preserved c = (let t = c.loop-i-test.true in omega arith, below_more (λ (j : ℕ). same_kept c.args.k (kept_in_lem c.args.hashes.now c.args.links.now c.args.sums.now j) ≡ false) _ c.loop-i.invariant.1 (ap (same_kept c.args.k) (sym c.kept_at.ensures) ∙ sym c.same_kept.ensures ∙ c.if-same_kept.false))
+loop-i-preserved c = (let t = c.loop-i-test.true in omega arith, below_more (λ (j : ℕ). same_kept c.args.k (kept_read_in c.args.hashes.now c.args.links.now c.args.sums.now j) ≡ false) _ c.loop-i.invariant.1 (ap (same_kept c.args.k) (sym c.kept_at.ensures) ∙ sym c.same_kept.ensures ∙ c.if-same_kept.false))
 
 pub returns : goal.returns
 returns c = record { few = omega arith; before = λ j l. c.loop-i.invariant.1 j (let z = c.loop-i-test.false in omega arith); found = λ l. absurd (omega arith) }

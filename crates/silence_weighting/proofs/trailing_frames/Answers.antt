@@ -15,8 +15,8 @@ use Rattle.silence_weighting.proofs.trailing_frames.Goals as goal
 pub loop-i-init : goal.loop-i-init
 loop-i-init c =
     let a = c.args in
-    let e = back_all a.silence-phones.now a.phones.now a.starts.now a.ends.now c.segment_count-i.result c.segment_count-i.ensures in
-    (omega (arith, c.segment_count-i.ensures), (omega arith, omega (arith, ap (trailing a.silence-phones.now) e)))
+    let e = back_all a.silence_phones.now a.phones.now a.starts.now a.ends.now c.segment_count-i.result c.segment_count-i.ensures in
+    (omega (arith, c.segment_count-i.ensures), (omega arith, omega (arith, ap (trailing a.silence_phones.now) e)))
 
 pub offset_bounds-phones-i : goal.offset_bounds-phones-i
 offset_bounds-phones-i c = omega (arith, good_count c.args.phones.now c.args.starts.now c.args.ends.now c.requires)
@@ -57,8 +57,8 @@ loop-i-preserved c =
     let l = c.loop-i in
     let h : 0 < l.i = c.loop-i-test.true in
     let e = to_z-of_z w32 (get_or a.phones.now (l.i - 1) (pos 0)) (record { sfits = c.is_silence-arg-1.given }) in
-    let s : is_silence a.silence-phones.now (get_or a.phones.now (l.i - 1) (pos 0)) ≡ true = sym (rw e at c.is_silence.ensures) ∙ c.if-is_silence.true in
-    let m = silent_more a.silence-phones.now a.phones.now a.starts.now a.ends.now l.i h s in
+    let s : is_silence a.silence_phones.now (get_or a.phones.now (l.i - 1) (pos 0)) ≡ true = sym (rw e at c.is_silence.ensures) ∙ c.if-is_silence.true in
+    let m = silent_more a.silence_phones.now a.phones.now a.starts.now a.ends.now l.i h s in
     let g = (good_at a.phones.now a.starts.now a.ends.now c.requires (l.i - 1) (omega arith)).1 in
     (omega arith, (omega arith, omega (arith, l.invariant.1.1)))
 
@@ -68,11 +68,11 @@ returns-else-is_silence c =
     let l = c.loop-i in
     let h : 0 < l.i = c.loop-i-test.true in
     let e = to_z-of_z w32 (get_or a.phones.now (l.i - 1) (pos 0)) (record { sfits = c.is_silence-arg-1.given }) in
-    let s : is_silence a.silence-phones.now (get_or a.phones.now (l.i - 1) (pos 0)) ≡ false = sym (rw e at c.is_silence.ensures) ∙ c.if-is_silence.false in
-    omega (arith, l.invariant.1.1, silent_stop a.silence-phones.now a.phones.now a.starts.now a.ends.now l.i h s)
+    let s : is_silence a.silence_phones.now (get_or a.phones.now (l.i - 1) (pos 0)) ≡ false = sym (rw e at c.is_silence.ensures) ∙ c.if-is_silence.false in
+    omega (arith, l.invariant.1.1, silent_stop a.silence_phones.now a.phones.now a.starts.now a.ends.now l.i h s)
 
 pub returns : goal.returns
 returns c =
     let a = c.args in
     let l = c.loop-i in
-    omega (arith, l.invariant.1.1, silent_none a.silence-phones.now a.phones.now a.starts.now a.ends.now l.i (omega arith))
+    omega (arith, l.invariant.1.1, silent_none a.silence_phones.now a.phones.now a.starts.now a.ends.now l.i (omega arith))

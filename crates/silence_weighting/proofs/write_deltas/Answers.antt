@@ -45,13 +45,13 @@ put_frames-requires c =
     let t = c.step_at-s in
     let n = times_few c.args.w c.args.status.now l.weights l.previous l.f t.result t.ensures in
     let p = product_few l.f c.args.w.subsampling (omega (arith, c.requires.0.few, c.loop-f-test.true)) c.requires.0.times in
-    (omega (arith, l.invariant.as-frames, c.requires.1.0, room c.before.before.before), omega (arith, c.requires.0.input, c.requires.0.times))
+    (omega (arith, l.invariant.as_frames, c.requires.1.0, room c.before.before.before), omega (arith, c.requires.0.input, c.requires.0.times))
 
 pub overflow_add-at : goal.overflow_add-at
 overflow_add-at c = omega (arith, c.requires.1.0, c.well-formed, room c.before.before.before.before.before.before.before.before)
 
 pub fill_weights-requires : goal.fill_weights-requires
-fill_weights-requires c = omega (arith, c.loop-f.invariant.as-deltas, c.requires.1.1, room c.before.before.before.before.before.before.before.before)
+fill_weights-requires c = omega (arith, c.loop-f.invariant.as_deltas, c.requires.1.1, room c.before.before.before.before.before.before.before.before)
 
 pub overflow_add-at-in-loop-f : goal.overflow_add-at-in-loop-f
 overflow_add-at-in-loop-f c = omega (arith, c.requires.1.0, c.well-formed, room c.before.before.before.before.before.before.before.before.before.before.before.before)
@@ -74,10 +74,10 @@ pub shape_of-weights : goal.shape_of-weights
 shape_of-weights c = c.loop-f.invariant.as_many
 
 pub shape_of-frames : goal.shape_of-frames
-shape_of-frames c = c.loop-f.invariant.as-frames
+shape_of-frames c = c.loop-f.invariant.as_frames
 
 pub shape_of-deltas : goal.shape_of-deltas
-shape_of-deltas c = c.loop-f.invariant.as-deltas
+shape_of-deltas c = c.loop-f.invariant.as_deltas
 
 pub returns : goal.returns
 returns c =

@@ -24,31 +24,31 @@ settings c = sym c.settings_wrong.ensures ∙ c.if-settings_wrong.false
 many : (c : goal.After-too-many) → let a = c.args in too_many (places a.status.now a.weights.now) a.self.frames ≡ c.too_many.result
 many c = let a = c.args in sym (c.too_many.ensures ∙ ap (λ n. too_many n a.self.frames) c.smaller-store.ensures)
 
-many2 : (c : goal.After-too-many2) → let a = c.args in too_many (places a.status.now a.weights.now) a.num-frames-decoded ≡ c.too_many-2.result
-many2 c = let a = c.args in sym (c.too_many-2.ensures ∙ ap (λ n. too_many n a.num-frames-decoded) c.smaller-store.ensures)
+many2 : (c : goal.After-too-many2) → let a = c.args in too_many (places a.status.now a.weights.now) a.num_frames_decoded ≡ c.too_many-2.result
+many2 c = let a = c.args in sym (c.too_many-2.ensures ∙ ap (λ n. too_many n a.num_frames_decoded) c.smaller-store.ensures)
 
-few : (c : goal.After-too-many2) → c.too_many-2.result ≡ false → let a = c.args in a.num-frames-decoded ≤ places a.status.now a.weights.now
-few c e = let a = c.args in (few_frames (places a.status.now a.weights.now) a.num-frames-decoded (many2 c ∙ e)).1
+few : (c : goal.After-too-many2) → c.too_many-2.result ≡ false → let a = c.args in a.num_frames_decoded ≤ places a.status.now a.weights.now
+few c e = let a = c.args in (few_frames (places a.status.now a.weights.now) a.num_frames_decoded (many2 c ∙ e)).1
 
 pub returns-then-settings_wrong : goal.returns-then-settings_wrong
 returns-then-settings_wrong c =
     let a = c.args in
-    record { answer = traced_by a.silence-phones.now a.self a.phones.now a.starts.now a.ends.now a.num-frames-decoded a.status.now a.weights.now (sym c.settings_wrong.ensures ∙ c.if-settings_wrong.true) refl refl refl; kept = (refl, refl) }
+    record { answer = traced_by a.silence_phones.now a.self a.phones.now a.starts.now a.ends.now a.num_frames_decoded a.status.now a.weights.now (sym c.settings_wrong.ensures ∙ c.if-settings_wrong.true) refl refl refl; kept = (refl, refl) }
 
 pub returns-then-too_many : goal.returns-then-too_many
 returns-then-too_many c =
     let a = c.args in
-    record { answer = traced_by a.silence-phones.now a.self a.phones.now a.starts.now a.ends.now a.num-frames-decoded a.status.now a.weights.now (settings c.before.before) (many c.before ∙ c.if-too_many.true) refl refl; kept = (refl, refl) }
+    record { answer = traced_by a.silence_phones.now a.self a.phones.now a.starts.now a.ends.now a.num_frames_decoded a.status.now a.weights.now (settings c.before.before) (many c.before ∙ c.if-too_many.true) refl refl; kept = (refl, refl) }
 
 pub returns-then-too_many-2 : goal.returns-then-too_many-2
 returns-then-too_many-2 c =
     let a = c.args in
-    record { answer = traced_by a.silence-phones.now a.self a.phones.now a.starts.now a.ends.now a.num-frames-decoded a.status.now a.weights.now (settings c.before.before.before.before) (many c.before.before.before ∙ c.if-too_many.false) (many2 c.before ∙ c.if-too_many-2.true) refl; kept = (refl, refl) }
+    record { answer = traced_by a.silence_phones.now a.self a.phones.now a.starts.now a.ends.now a.num_frames_decoded a.status.now a.weights.now (settings c.before.before.before.before) (many c.before.before.before ∙ c.if-too_many.false) (many2 c.before ∙ c.if-too_many-2.true) refl; kept = (refl, refl) }
 
 pub returns-then-bad_segments : goal.returns-then-bad_segments
 returns-then-bad_segments c =
     let a = c.args in
-    record { answer = traced_by a.silence-phones.now a.self a.phones.now a.starts.now a.ends.now a.num-frames-decoded a.status.now a.weights.now (settings c.before.before.before.before.before.before) (many c.before.before.before.before.before ∙ c.if-too_many.false) (many2 c.before.before.before ∙ c.if-too_many-2.false) (sym c.bad_segments.ensures ∙ c.if-bad_segments.true); kept = (refl, refl) }
+    record { answer = traced_by a.silence_phones.now a.self a.phones.now a.starts.now a.ends.now a.num_frames_decoded a.status.now a.weights.now (settings c.before.before.before.before.before.before) (many c.before.before.before.before.before ∙ c.if-too_many.false) (many2 c.before.before.before ∙ c.if-too_many-2.false) (sym c.bad_segments.ensures ∙ c.if-bad_segments.true); kept = (refl, refl) }
 
 pub fill_status-requires : goal.fill_status-requires
 fill_status-requires c = omega (arith, few c.before.before.before.before c.if-too_many-2.false)
@@ -62,7 +62,7 @@ tell_segments-requires c = omega (arith, few c.before.before.before.before.befor
 pub overflow_cast-total : goal.overflow_cast-total
 overflow_cast-total c =
     let a = c.args in
-    omega (arith, (few_frames (places a.status.now a.weights.now) a.self.frames (many c.before.before.before.before.before.before.before.before.before.before.before.before.before.before.before.before.before.before ∙ c.if-too_many.false)).0, (few_frames (places a.status.now a.weights.now) a.num-frames-decoded (many2 c.before.before.before.before.before.before.before.before.before.before.before.before.before.before.before.before ∙ c.if-too_many-2.false)).0, c.larger-total.ensures)
+    omega (arith, (few_frames (places a.status.now a.weights.now) a.self.frames (many c.before.before.before.before.before.before.before.before.before.before.before.before.before.before.before.before.before.before ∙ c.if-too_many.false)).0, (few_frames (places a.status.now a.weights.now) a.num_frames_decoded (many2 c.before.before.before.before.before.before.before.before.before.before.before.before.before.before.before.before ∙ c.if-too_many-2.false)).0, c.larger-total.ensures)
 
 pub shape_of-status : goal.shape_of-status
 shape_of-status c = c.tell_segments.auto.1.1.1.1.1.0 ∙ c.fill_status.auto.status
@@ -80,7 +80,7 @@ returns c =
     let ts = c.tell_segments in
     let l = few c.before.before.before.before.before.before.before.before.before.before.before.before.before.before.before.before c.if-too_many-2.false in
     record {
-      answer = ap ok (traced_state a.silence-phones.now a.self segments a.num-frames-decoded a.status.now a.weights.now c.larger-total.result fs.new.0 ts.new.1.1.1.1.1.0 fw.new.0 c.larger-total.ensures fs.ensures ts.ensures fw.ensures (omega arith) (omega arith))
-          ∙ traced_by a.silence-phones.now a.self a.phones.now a.starts.now a.ends.now a.num-frames-decoded a.status.now a.weights.now (settings c.before.before.before.before.before.before.before.before.before.before.before.before.before.before.before.before.before.before.before) (many c.before.before.before.before.before.before.before.before.before.before.before.before.before.before.before.before.before.before ∙ c.if-too_many.false) (many2 c.before.before.before.before.before.before.before.before.before.before.before.before.before.before.before.before ∙ c.if-too_many-2.false) (sym c.bad_segments.ensures ∙ c.if-bad_segments.false);
-      kept = traced_behind a.silence-phones.now a.self segments a.num-frames-decoded a.status.now a.weights.now c.larger-total.result fs.new.0 ts.new.1.1.1.1.1.0 fw.new.0 c.larger-total.ensures fs.ensures ts.ensures fw.ensures;
+      answer = ap ok (traced_state a.silence_phones.now a.self segments a.num_frames_decoded a.status.now a.weights.now c.larger-total.result fs.new.0 ts.new.1.1.1.1.1.0 fw.new.0 c.larger-total.ensures fs.ensures ts.ensures fw.ensures (omega arith) (omega arith))
+          ∙ traced_by a.silence_phones.now a.self a.phones.now a.starts.now a.ends.now a.num_frames_decoded a.status.now a.weights.now (settings c.before.before.before.before.before.before.before.before.before.before.before.before.before.before.before.before.before.before.before) (many c.before.before.before.before.before.before.before.before.before.before.before.before.before.before.before.before.before.before ∙ c.if-too_many.false) (many2 c.before.before.before.before.before.before.before.before.before.before.before.before.before.before.before.before ∙ c.if-too_many-2.false) (sym c.bad_segments.ensures ∙ c.if-bad_segments.false);
+      kept = traced_behind a.silence_phones.now a.self segments a.num_frames_decoded a.status.now a.weights.now c.larger-total.result fs.new.0 ts.new.1.1.1.1.1.0 fw.new.0 c.larger-total.ensures fs.ensures ts.ensures fw.ensures;
     }

@@ -11,18 +11,18 @@ use Rattle.silence_weighting.proofs.SilenceWeighting.get_delta_weights.Goals as 
 -- the plan is the definition's, at the room of both output slices
 planned : (c : goal.After-plan) →
     let a = c.args in
-    plan_of a.self a.num-frames-ready a.first-decoder-frame (min (length a.frames.now) (length a.deltas.now)) a.status.now a.weights.now ≡ c.plan.result
+    plan_of a.self a.num_frames_ready a.first_decoder_frame (min (length a.frames.now) (length a.deltas.now)) a.status.now a.weights.now ≡ c.plan.result
 planned c =
     let a = c.args in
-    ap (λ n. plan_of a.self a.num-frames-ready a.first-decoder-frame n a.status.now a.weights.now) (sym c.smaller-room.ensures) ∙ sym c.plan.ensures
+    ap (λ n. plan_of a.self a.num_frames_ready a.first_decoder_frame n a.status.now a.weights.now) (sym c.smaller-room.ensures) ∙ sym c.plan.ensures
 
 -- the window fits
 fits : (c : goal.In-Write-2) →
     let a = c.args in
-    Within a.self (ceil_div (a.num-frames-ready - a.first-decoder-frame) a.self.subsampling) a.status.now a.weights.now a.frames.now a.deltas.now c.in-Write.window
+    Within a.self (ceil_div (a.num_frames_ready - a.first_decoder_frame) a.self.subsampling) a.status.now a.weights.now a.frames.now a.deltas.now c.in-Write.window
 fits c =
     let a = c.args in
-    write_fits a.self a.num-frames-ready a.first-decoder-frame a.status.now a.weights.now a.frames.now a.deltas.now c.in-Write.window c.in-Write.count (planned c.before.before ∙ c.in-Write.is)
+    write_fits a.self a.num_frames_ready a.first_decoder_frame a.status.now a.weights.now a.frames.now a.deltas.now c.in-Write.window c.in-Write.count (planned c.before.before ∙ c.in-Write.is)
 
 pub write_deltas-requires : goal.write_deltas-requires
 write_deltas-requires c =
@@ -40,16 +40,16 @@ overflow_cast-total c =
 pub returns-in-Refused : goal.returns-in-Refused
 returns-in-Refused c =
     let a = c.args in
-    refused_right a.self a.num-frames-ready a.first-decoder-frame a.status.now a.weights.now a.frames.now a.deltas.now c.in-Refused.number (planned c.before.before.before ∙ c.in-Refused.is)
+    refused_right a.self a.num_frames_ready a.first_decoder_frame a.status.now a.weights.now a.frames.now a.deltas.now c.in-Refused.number (planned c.before.before.before ∙ c.in-Refused.is)
 
 pub returns-in-Nothing : goal.returns-in-Nothing
 returns-in-Nothing c =
     let a = c.args in
-    nothing_right a.self a.num-frames-ready a.first-decoder-frame a.status.now a.weights.now a.frames.now a.deltas.now (planned c.before.before ∙ c.in-Nothing.is)
+    nothing_right a.self a.num_frames_ready a.first_decoder_frame a.status.now a.weights.now a.frames.now a.deltas.now (planned c.before.before ∙ c.in-Nothing.is)
 
 pub returns-in-Write : goal.returns-in-Write
 returns-in-Write c =
     let a = c.args in
     let wd = c.write_deltas in
     let g = c.window-1.given in
-    write_right a.self a.num-frames-ready a.first-decoder-frame a.status.now a.weights.now a.frames.now a.deltas.now g.0.0 g.0.1.0 c.fill_status.new.0 wd.new.1.1.0 wd.new.1.1.1.0 wd.new.1.1.1.1.0 (planned c.before.before.before.before.before.before.before.before.before.before.before.before.before.before.before.before.before.before.before ∙ g.1) c.fill_status.ensures wd.ensures
+    write_right a.self a.num_frames_ready a.first_decoder_frame a.status.now a.weights.now a.frames.now a.deltas.now g.0.0 g.0.1.0 c.fill_status.new.0 wd.new.1.1.0 wd.new.1.1.1.0 wd.new.1.1.1.1.0 (planned c.before.before.before.before.before.before.before.before.before.before.before.before.before.before.before.before.before.before.before ∙ g.1) c.fill_status.ensures wd.ensures

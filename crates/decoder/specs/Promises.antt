@@ -18,7 +18,7 @@ use Rattle.fst.specs.Answer.{refusal_of}
 use Rattle.fst.specs.Epsilons.{eps_bits}
 use Rattle.arcs.specs.State.{Tables}
 use Rattle.checks.specs.declared.Lengths.{Lengths}
-use Rattle.checks.specs.Fit.{Wide, record_places, per_record_lem, kept_places_of, per_kept_lem, places_of}
+use Rattle.checks.specs.Fit.{Wide, record_places, for_records, kept_places_of, for_kept, places_of}
 use Rattle.checks.specs.Frame.{frame_number}
 use Rattle.checks.specs.Margin.{asked}
 use Rattle.traceback.specs.declared.BestPath.{BestPath}
@@ -137,10 +137,10 @@ pub record RelativeLeft (tk : List ℕ) (sm finals : List Float) (d : Decoder) :
   pub left : FinalsLeft tk sm records labels finals d
 
 -- a read that works in slices of these lengths, and of these places per record
-pub record AlternativesLeft (tk : List ℕ) (sm : List Float) (rs : List ℕ) (ls : List ℤ) (finals : List Float) (scratch per_record_lem : List ℕ) (d : Decoder) : Type 0 where
+pub record AlternativesLeft (tk : List ℕ) (sm : List Float) (rs : List ℕ) (ls : List ℤ) (finals : List Float) (scratch for_records : List ℕ) (d : Decoder) : Type 0 where
   pub left : FinalsLeft tk sm rs ls finals d
   pub wide : Wide d.graph.states scratch
-  pub wide_records : Wide d.cap per_record_lem
+  pub wide_records : Wide d.cap for_records
 
 -- as for a read with final weights, but that the gaps are lent too
 pub record GapsLeft (tk : List ℕ) (sm : List Float) (rs : List ℕ) (ls : List ℤ) (gs finals : List Float) (d : Decoder) : Type 0 where
@@ -151,11 +151,11 @@ pub record GapsLeft (tk : List ℕ) (sm : List Float) (rs : List ℕ) (ls : List
   pub finals_are : left.g.finals ≡ finals
 
 -- and it works in slices of these places per kept reading
-pub record ReadingsLeft (tk : List ℕ) (sm : List Float) (rs : List ℕ) (ls : List ℤ) (gs finals : List Float) (scratch per_record_lem : List ℕ) (kept : ℕ) (per_kept_lem : List ℕ) (d : Decoder) : Type 0 where
+pub record ReadingsLeft (tk : List ℕ) (sm : List Float) (rs : List ℕ) (ls : List ℤ) (gs finals : List Float) (scratch for_records : List ℕ) (kept : ℕ) (for_kept : List ℕ) (d : Decoder) : Type 0 where
   pub left : GapsLeft tk sm rs ls gs finals d
   pub wide : Wide d.graph.states scratch
-  pub wide_records : Wide d.cap per_record_lem
-  pub wide_kept : Wide kept per_kept_lem
+  pub wide_records : Wide d.cap for_records
+  pub wide_kept : Wide kept for_kept
 
 -- all of this at once, with slices of these lengths
 pub record Asked (T : Tables) (m : Lent) (finals : List Float) (eps : List ℕ) (places : ℕ) (l : Lengths) (d : Decoder) : Type 0 where
@@ -165,7 +165,7 @@ pub record Asked (T : Tables) (m : Lent) (finals : List Float) (eps : List ℕ) 
   pub relative : RelativeLeft m.tokens m.sums finals d
   pub best : FinalsLeft m.tokens m.sums m.records m.labels finals d
   pub alternatives : AlternativesLeft m.tokens m.sums m.records m.labels finals (l.keys ∷ l.places ∷ l.own ∷ []) (l.history_keys / 2 ∷ l.history_skips / 2 ∷ []) d
-  pub readings : ReadingsLeft m.tokens m.sums m.records m.labels m.gaps finals (l.keys ∷ l.places ∷ l.own ∷ l.heads ∷ l.list ∷ []) (per_record_lem l) (kept_places_of l) (per_kept_lem d.graph.states l) d
+  pub readings : ReadingsLeft m.tokens m.sums m.records m.labels m.gaps finals (l.keys ∷ l.places ∷ l.own ∷ l.heads ∷ l.list ∷ []) (for_records l) (kept_places_of l) (for_kept d.graph.states l) d
 
 -- ---- the reads
 
