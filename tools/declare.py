@@ -34,9 +34,9 @@ PLAIN = {
 }
 
 COMMENT = r"((?:^ *// [^\n]*\n)*)"
-STRUCT = re.compile(COMMENT + r'^#\[repr\(C\)\]\npub struct (\w+) \{\n(.*?)^\}\n', re.M | re.S)
+STRUCT = re.compile(COMMENT + r'^#\[repr\(C\)\]\n#\[derive\(Clone, Copy\)\]\npub struct (\w+) \{\n(.*?)^\}\n', re.M | re.S)
 FIELD = re.compile(COMMENT + r"^ {4}pub (\w+): (\w+),\n", re.M)
-FUNCTION = re.compile(COMMENT + r'^#\[no_mangle\]\npub extern "C" fn (\w+)\(([^)]*)\) -> (\w+)\n', re.M)
+FUNCTION = re.compile(COMMENT + r'^#\[unsafe\(no_mangle\)\]\npub extern "C" fn (\w+)\(([^)]*)\) -> (\w+)\n', re.M)
 CONSTANT = re.compile(COMMENT + r"^pub const (\w+): (\w+) = ([0-9_]+);\n", re.M)
 
 
@@ -91,7 +91,7 @@ def declared(name, crate):
     own = structs_of(crate)
     if name in own:
         return crate, own[name]
-    used = re.search(rf"^use (\w+)::{name};$", source(crate), re.M)
+    used = re.search(rf"^use (\w+)::(?:{name}|\{{[^}}]*\b{name}\b[^}}]*\}});$", source(crate), re.M)
     if not used:
         sys.exit(f"{crate}: {name} is neither a plain type nor a #[repr(C)] struct")
     return declared(name, used[1])

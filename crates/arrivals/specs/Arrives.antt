@@ -10,7 +10,7 @@ use Rattle.model.specs.Basics.{◌≺◌, ◌≼◌, ◌⊖◌, Outcome, ok}
 use Rattle.model.specs.Graph.{Arc}
 use Rattle.model.specs.Path.{Path, Token, paths}
 use Rattle.model.specs.Arrive.{Pass, total, Here, Work, Meets as Met, past_cutoff, vacant, better, not_better, against, meets, path_in_hand, Change, arc_cut, token_stays, token_wins, token_joins, settle, passed, put, place_of}
-use Rattle.model.specs.Came.{SettledBy, settle_settled}
+use Rattle.model.proofs.Came.{SettledBy, settle_settled}
 use Rattle.model.specs.Accepted.{Ok}
 use Rattle.tokens.specs.declared.Token.{Token as Stored}
 use Rattle.tokens.specs.Layout.{Cell, cell_at, requeued_at, place_in, TokenPut, token_of}

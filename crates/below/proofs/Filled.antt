@@ -95,7 +95,7 @@ module _ {rs : List ℕ} {ls : List ℤ} {gs : List Float} {used : ℕ} {lists h
       let l = A.low in
       let a = W.low in
       let b = K.low in
-      let d = K.End-low in
+      let d = K.end_low in
       let f = W.way.first in
       let g = K.way.first in
       let c = W.way.count in

@@ -157,6 +157,7 @@ take_few (suc n) [] = omega arith
 take_few (suc n) (b ∷ bs) = let z = take_few n bs in omega arith
 
 firsts_some : (n : ℕ) → 0 < n → (bs : List Below) (b : Below) → b ∈ bs → 0 < length (take n (firsts same_key [] bs))
+firsts_some (suc n) l [] c m = elim m [ ]
 firsts_some zero l bs b m = absurd (omega arith)
 firsts_some (suc n) l (b ∷ bs) c m = omega arith
 

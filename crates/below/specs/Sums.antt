@@ -13,14 +13,17 @@ use Rattle.below.specs.Maps.{range_member}
 module _ {A : Type 0} (f : A → ℕ) where
   -- the list without one of its members
   abbrev without : (x : A) (ys : List A) → x ∈ ys → List A
+  without x [] x'' = elim x'' [ ]
   without x (y ∷ ys) (here e) = ys
   without x (y ∷ ys) (there m) = y ∷ without x ys m
 
   sum_without : (x : A) (ys : List A) (m : x ∈ ys) → sum (map f ys) ≡ f x + sum (map f (without x ys m))
   sum_without x (y ∷ ys) (here e) = ap (λ (z : A). f z + sum (map f ys)) (sym e)
+  sum_without x [] m = elim m [ ]
   sum_without x (y ∷ ys) (there m) = let z = sum_without x ys m in omega arith
 
   in_without : (x : A) (ys : List A) (m : x ∈ ys) (z : A) → z ∈ ys → (z ≡ x → ⊥) → z ∈ without x ys m
+  in_without x [] m z _ d = elim m [ ]
   in_without x (y ∷ ys) (here e) z (here q) d = absurd (d (q ∙ sym e))
   in_without x (y ∷ ys) (here e) z (there n) d = n
   in_without x (y ∷ ys) (there m) z (here q) d = here q

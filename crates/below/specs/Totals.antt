@@ -34,6 +34,7 @@ module _ (margin : Float) (cap : ℕ) (h : ℕ → History) where
   -- and conversely
   pub visited_into : (links : List ℕ) (l : ℕ) (v : ℕ × ℕ) → l ∈ links → v ∈ visited_of margin cap (h l) → v ∈ visited_below margin cap (map h links)
   visited_into (k ∷ links) l v (here e) m = Memᴰ.append_left (visited_below margin cap (map h links)) (subst (λ (i : ℕ). v ∈ visited_of margin cap (h i)) e m)
+  visited_into [] l v x'' m = elim x'' [ ]
   visited_into (k ∷ links) l v (there i) m = Memᴰ.append_right (visited_of margin cap (h k)) (visited_into links l v i m)
 
 apart_once : (vs : List (ℕ × ℕ)) → Apart (λ (a b : ℕ × ℕ). eqb a.0 b.0) vs → Nodup vs

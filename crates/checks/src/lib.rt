@@ -5,8 +5,8 @@ ghost use Rattle.std.specs.Prelude.{◌≡◌, not, ◌||◌, ◌/◌, [], ◌�
 ghost use Rattle.lists.specs.Lists.{all};
 ghost use Rattle.real32.specs.Small.{tame};
 ghost use Rattle.model.specs.Passes.{fair, fair_margin};
-ghost use Rattle.checks.specs.Fit.{leastOf, recordPlaces, configWrong, storesWrong};
-ghost use Rattle.checks.specs.Frame.{frameNumber};
+ghost use Rattle.checks.specs.Fit.{least_of, record_places, config_wrong, stores_wrong};
+ghost use Rattle.checks.specs.Frame.{frame_number};
 ghost use Rattle.checks.specs.Margin.{asked};
 
 use cutoff::Config;
@@ -21,7 +21,7 @@ fn is_fair(x: f32) -> bool
 
 // 6, of the settings.
 fn config_wrong(config: Config) -> bool
-    ensures { result ≡ configWrong config }
+    ensures { result ≡ config_wrong config }
 {
     if !is_fair(config.beam) {
         return true;
@@ -64,14 +64,14 @@ pub struct Lengths {
 
 // The places of the record store.
 pub fn record_places(l: Lengths) -> usize
-    ensures { result ≡ recordPlaces l }
+    ensures { result ≡ record_places l }
 {
     smaller(l.records / 8, smaller(l.labels / 2, l.gaps / 2))
 }
 
 // The fewest places of a slice kept per state.
 fn fewest_per_state(l: Lengths) -> usize
-    ensures { result ≡ leastOf (l.tokens / 8) (l.sums / 4 ∷ l.eps ∷ l.scratch ∷ l.keys ∷ l.places ∷ l.own ∷ l.heads ∷ l.list ∷ []) }
+    ensures { result ≡ least_of (l.tokens / 8) (l.sums / 4 ∷ l.eps ∷ l.scratch ∷ l.keys ∷ l.places ∷ l.own ∷ l.heads ∷ l.list ∷ []) }
 {
     let listed = smaller(l.own, smaller(l.heads, l.list));
     let worked = smaller(l.scratch, smaller(l.keys, smaller(l.places, listed)));
@@ -80,7 +80,7 @@ fn fewest_per_state(l: Lengths) -> usize
 
 // The fewest places of a slice kept per record.
 fn fewest_per_record(l: Lengths) -> usize
-    ensures { result ≡ leastOf (l.lists / 2) (l.route ∷ l.history_keys / 2 ∷ l.history_skips / 2 ∷ []) }
+    ensures { result ≡ least_of (l.lists / 2) (l.route ∷ l.history_keys / 2 ∷ l.history_skips / 2 ∷ []) }
 {
     let histories = smaller(l.history_keys / 2, l.history_skips / 2);
     smaller(l.lists / 2, smaller(l.route, histories))
@@ -88,7 +88,7 @@ fn fewest_per_record(l: Lengths) -> usize
 
 // 6, of the stores: a slice kept per state, per record or per kept reading with fewer places than these, or too many records.
 fn stores_wrong(l: Lengths, states: usize) -> bool
-    ensures { result ≡ storesWrong states l }
+    ensures { result ≡ stores_wrong states l }
 {
     if fewest_per_state(l) < states {
         return true;
@@ -106,7 +106,7 @@ fn stores_wrong(l: Lengths, states: usize) -> bool
 
 // 6, of a fitting.
 pub fn fit_wrong(config: Config, l: Lengths, states: usize) -> bool
-    ensures { result ≡ (configWrong config || storesWrong states l) }
+    ensures { result ≡ (config_wrong config || stores_wrong states l) }
 {
     if config_wrong(config) {
         return true;
@@ -128,7 +128,7 @@ fn all_tame(loglikes: &[f32]) -> bool
 
 // 10, 8, 9 of a frame; 0 for none.
 pub fn check_frame(loglikes: &[f32], frames: u32, pdfs: u32) -> u32
-    ensures { result ≡ frameNumber loglikes.now frames pdfs }
+    ensures { result ≡ frame_number loglikes.now frames pdfs }
 {
     if refusals::MAX_FRAMES <= frames {
         return refusals::TOO_MANY_FRAMES;

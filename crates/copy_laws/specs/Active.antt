@@ -14,7 +14,8 @@ use Rattle.real32.specs.Small.{tame, tame_real}
 use Rattle.model.specs.Graph.{Graph, Arc, states, arcs_of}
 use Rattle.model.specs.Path.{Token, Table}
 use Rattle.model.specs.Arrive.{Pass, takes, Here, Work, arriving, joined}
-use Rattle.model.specs.Came.{WithLoser, Came, came_cut, came_vacant, came_better, came_dropped, came_joined}
+use Rattle.model.specs.Came.{WithLoser}
+use Rattle.model.proofs.Came.{Came, came_cut, came_vacant, came_better, came_dropped, came_joined}
 use Rattle.model.specs.Checked.{GoodGraph}
 use Rattle.copy_laws.specs.Walks.{Heard, heard_by}
 use Rattle.copy_laws.specs.Tables.{At, at_set, at_put, at_none, vacant, vacant_none, vacant_fill, vacant_same}

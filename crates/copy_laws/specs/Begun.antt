@@ -13,8 +13,10 @@ use Rattle.model.specs.Graph.{Graph, Arc, arcs_of, emits, has_eps}
 use Rattle.model.specs.Path.{Token, Table}
 use Rattle.model.specs.Arrive.{nonemitting, takes, Here, Work, push}
 use Rattle.model.specs.Passes.{push_from}
-use Rattle.model.specs.Accepted.{Ok, then, branches, weaken}
-use Rattle.model.specs.Came.{More, Queued}
+use Rattle.model.specs.Accepted.{Ok}
+use Rattle.model.proofs.Accepted.{then, branches, weaken}
+use Rattle.model.specs.Came.{Queued}
+use Rattle.model.proofs.Came.{More}
 use Rattle.copy_laws.specs.Tables.{At, none≢some}
 
 -- of a table of the states from s on

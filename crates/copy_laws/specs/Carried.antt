@@ -17,8 +17,9 @@ use Rattle.model.specs.Path.{Token, Table}
 use Rattle.model.specs.Cutoff.{Config, best, get_cutoff}
 use Rattle.model.specs.Arrive.{Pass, emitting, nonemitting, takes, total, Here, Work, arrive, arrive_all}
 use Rattle.model.specs.Passes.{offset_of, look, empty_work, emit_from, emitting_pass, push_from, popped, expand, drain, fuel, nonemitting_pass}
-use Rattle.model.specs.Accepted.{Ok, weaken}
-use Rattle.model.specs.Came.{Came, arrive_came}
+use Rattle.model.specs.Accepted.{Ok}
+use Rattle.model.proofs.Accepted.{weaken}
+use Rattle.model.proofs.Came.{Came, arrive_came}
 use Rattle.copy_laws.specs.Drops.{on_ok, drops_total, drops_emit, drops_emitting, drops_popped, drops_queue, drops_nonemitting}
 use Rattle.copy_laws.specs.Tables.{At}
 use Rattle.copy_laws.specs.Begun.{Starts, push_starts}

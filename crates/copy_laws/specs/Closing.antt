@@ -16,7 +16,7 @@ use Rattle.model.specs.Path.{Token, Table}
 use Rattle.model.specs.Arrive.{nonemitting, takes, total, Here, Work, joined}
 use Rattle.model.specs.Passes.{popped, nonemitting_pass}
 use Rattle.model.specs.Accepted.{Ok}
-use Rattle.model.specs.Came.{More, Came, came_cut, came_vacant, came_better, came_dropped, came_joined}
+use Rattle.model.proofs.Came.{More, Came, came_cut, came_vacant, came_better, came_dropped, came_joined}
 use Rattle.model.specs.Checked.{GoodGraph}
 use Rattle.copy_laws.specs.Walks.{Heard}
 use Rattle.copy_laws.specs.Drops.{drops_nonemitting}

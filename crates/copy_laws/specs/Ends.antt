@@ -17,8 +17,9 @@ use Rattle.model.specs.Graph.{Arc, states, arcs_of}
 use Rattle.model.specs.Path.{Token}
 use Rattle.model.specs.Arrive.{nonemitting, takes, total, Here, Work, arriving, joined, arrive, arrive_all}
 use Rattle.model.specs.Passes.{push_from, popped, expand, drain, fuel, nonemitting_pass}
-use Rattle.model.specs.Accepted.{Ok, then, branches}
-use Rattle.model.specs.Came.{Came, came_cut, came_vacant, came_better, came_dropped, came_joined, arrive_came}
+use Rattle.model.specs.Accepted.{Ok}
+use Rattle.model.proofs.Accepted.{then, branches}
+use Rattle.model.proofs.Came.{Came, came_cut, came_vacant, came_better, came_dropped, came_joined, arrive_came}
 use Rattle.copy_laws.specs.Tables.{at_put}
 use Rattle.copy_laws.specs.Begun.{Starts, push_starts}
 use Rattle.copy_laws.specs.Active.{with_loser}

@@ -8,7 +8,7 @@ use Rattle.model.specs.Cutoff.{Config, best, get_cutoff}
 use Rattle.model.specs.Arrive.{Pass, emitting, nonemitting, Here, Work}
 use Rattle.model.specs.Passes.{no_tokens, offset_of, empty_work, emitting_pass, popped, nonemitting_pass, frame}
 use Rattle.model.specs.Accepted.{Ok}
-use Rattle.model.specs.Came.{Came, came_cut, came_vacant, came_better, came_dropped, came_joined}
+use Rattle.model.proofs.Came.{Came, came_cut, came_vacant, came_better, came_dropped, came_joined}
 use Rattle.model.specs.Checked.{GoodGraph}
 use Rattle.copy_laws.specs.Walks.{Heard, heard_by}
 use Rattle.copy_laws.specs.Tables.{vacant}

@@ -13,7 +13,8 @@ use Rattle.model.specs.Cutoff.{Config}
 use Rattle.model.specs.Passes.{no_tokens, State, fitted, dropped, start, frame, fair_margin, set_keep}
 use Rattle.model.specs.Calls.{Call, start_call, frame_call, keep_call, read_call, said, call, told_call}
 use Rattle.model.specs.Accepted.{Ok}
-use Rattle.model.specs.Checked.{GoodGraph, checked}
+use Rattle.model.specs.Checked.{GoodGraph}
+use Rattle.model.proofs.Checked.{checked}
 use Rattle.copy_laws.specs.Walks.{Heard}
 use Rattle.copy_laws.specs.Drops.{drops_start, drops_frame}
 use Rattle.copy_laws.specs.Sums.{Floats32}

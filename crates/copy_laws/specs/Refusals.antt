@@ -21,8 +21,9 @@ use Rattle.model.specs.Passes.{first_look, offset_of, look, empty_work, emit_fro
 use Rattle.model.specs.Reads.{best_path, Traced, Group, trace_groups, alternatives}
 use Rattle.model.specs.Readings.{readings}
 use Rattle.model.specs.Calls.{Read, best_path_read, alternatives_read, readings_read, relative_cost_read, num_active_read, frames_decoded_read, Call, start_call, frame_call, keep_call, read_call, Reading, Answer, refusal_answer, done_answer, path_answer, paths_answer, readings_answer, count_answer, cost_answer, reading_of, words_of, short, to_list, unless, read_best, read_alternatives, read_readings, read_answer, said, call, told_call}
-use Rattle.model.specs.Accepted.{Ok, branches}
-use Rattle.model.specs.Came.{Came, arrive_came, arrive_all-keeps}
+use Rattle.model.specs.Accepted.{Ok}
+use Rattle.model.proofs.Accepted.{branches}
+use Rattle.model.proofs.Came.{Came, arrive_came, arrive_all-keeps}
 use Rattle.copy_laws.specs.Tables.{At}
 use Rattle.copy_laws.specs.Begun.{Starts, push_starts}
 use Rattle.copy_laws.specs.Claims.{read_refusals, refusals_of}

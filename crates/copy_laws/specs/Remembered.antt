@@ -18,7 +18,8 @@ use Rattle.model.specs.Arrive.{Pass, emitting, nonemitting, total, Here, Work, a
 use Rattle.model.specs.Passes.{offset_of, look, empty_work, emitting_pass, push_from, popped, expand, fuel, State, dropped, during, start_work, start, frame}
 use Rattle.model.specs.Calls.{Call, start_call, frame_call, keep_call, read_call}
 use Rattle.model.specs.Accepted.{Ok}
-use Rattle.model.specs.Checked.{GoodGraph, checked}
+use Rattle.model.specs.Checked.{GoodGraph}
+use Rattle.model.proofs.Checked.{checked}
 use Rattle.copy_laws.specs.Walks.{Heard}
 use Rattle.copy_laws.specs.Drops.{on_ok, drops_total, drops_emit, drops_emitting, drops_popped, drops_queue, drops_nonemitting, drops_start, drops_frame}
 use Rattle.copy_laws.specs.Begun.{Starts, push_starts}

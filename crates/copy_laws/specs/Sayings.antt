@@ -17,7 +17,7 @@ use Rattle.model.specs.Cutoff.{Config}
 use Rattle.model.specs.Passes.{State, fitted, dropped, start, frame, set_keep}
 use Rattle.model.specs.Reads.{use_finals, Traced, best_path, num_active}
 use Rattle.model.specs.Calls.{Read, best_path_read, alternatives_read, readings_read, relative_cost_read, num_active_read, frames_decoded_read, Call, start_call, frame_call, keep_call, read_call, Reading, Answer, refusal_answer, done_answer, path_answer, paths_answer, readings_answer, count_answer, cost_answer, unless, read_answer, Said, said, call, refused_at, told_call, answers_from, answers}
-use Rattle.model.specs.Checked.{checked}
+use Rattle.model.proofs.Checked.{checked}
 use Rattle.copy_laws.specs.Sums.{Floats32}
 use Rattle.copy_laws.specs.Points.{Point, go_to, after, fitted_point, reached, go_to-state, reached_stands}
 use Rattle.copy_laws.specs.Cuts.{cut_happened}

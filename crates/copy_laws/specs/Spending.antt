@@ -9,13 +9,15 @@ use Rattle.std.proofs.Math.Dec.{eqb_refl}
 use Rattle.std.specs.Float.Ieee.{binary32, fits}
 use Rattle.std.proofs.lemmas.Bool.{not-true}
 use Rattle.lists.specs.Tests.{holds, is_true, never, and_both}
-use Rattle.real32.specs.Rank.{rank, rank_lt, rank_32}
+use Rattle.real32.specs.Rank.{rank}
+use Rattle.real32.proofs.Rank.{rank_lt, rank_32}
 use Rattle.real32.specs.Small.{tame}
 use Rattle.model.specs.Basics.{◌≺◌, ◌≼◌, ◌⊖◌, over, check}
 use Rattle.model.specs.Graph.{Arc, has_eps}
 use Rattle.model.specs.Path.{Path, Token, Table, memℕ}
 use Rattle.model.specs.Arrive.{nonemitting, total, lower, Here, Work, Meets, past_cutoff, vacant, better, not_better, against, meets, arriving, joined, keeps, keep, path_in_hand, check_winner, Change, arc_cut, token_stays, token_wins, token_joins, or_else, joins_or_stays, fills, beats, loses, settle, passed, put, push, finish, place_of, arrive}
-use Rattle.model.specs.Accepted.{Ok, then, after, branches}
+use Rattle.model.specs.Accepted.{Ok}
+use Rattle.model.proofs.Accepted.{then, after, branches}
 use Rattle.copy_laws.specs.Tables.{At}
 
 -- ---- ranks of the places

@@ -12,7 +12,8 @@ use Rattle.model.specs.Path.{Token, Table}
 use Rattle.model.specs.Cutoff.{Config, best, get_cutoff}
 use Rattle.model.specs.Arrive.{Pass, emitting, takes, total, Here, Work}
 use Rattle.model.specs.Passes.{offset_of, emitting_pass}
-use Rattle.model.specs.Accepted.{Ok, weaken}
+use Rattle.model.specs.Accepted.{Ok}
+use Rattle.model.proofs.Accepted.{weaken}
 use Rattle.model.specs.Checked.{GoodGraph}
 use Rattle.copy_laws.specs.Walks.{Heard}
 use Rattle.copy_laws.specs.Drops.{drops_emitting}

@@ -22,7 +22,7 @@ use Rattle.model.specs.Cutoff.{Config}
 use Rattle.model.specs.Arrive.{nonemitting, takes, lower, total, Here, Work, arriving, joined}
 use Rattle.model.specs.Passes.{State, no_tokens, during, start_token, start_work, start, dropped, fair}
 use Rattle.model.specs.Calls.{start_call, refusal_answer, call}
-use Rattle.model.specs.Came.{Came, came_cut, came_vacant, came_better, came_dropped, came_joined}
+use Rattle.model.proofs.Came.{Came, came_cut, came_vacant, came_better, came_dropped, came_joined}
 use Rattle.model.specs.Checked.{GoodGraph}
 use Rattle.copy_laws.specs.Walks.{not_emits}
 use Rattle.copy_laws.specs.Tables.{At, at_put, at_none}

@@ -19,7 +19,7 @@ use Rattle.model.specs.Reads.{use_finals, rank_from, best_token, Traced, trace, 
 use Rattle.model.specs.Readings.{Below, below}
 use Rattle.model.specs.Calls.{Call, start_call, Answer, refusal_answer, done_answer, path_answer, call, told_call, answers}
 use Rattle.model.specs.Accepted.{Ok}
-use Rattle.model.specs.Checked.{checked}
+use Rattle.model.proofs.Checked.{checked}
 use Rattle.copy_laws.specs.Tables.{At}
 use Rattle.copy_laws.specs.Sums.{Floats32}
 use Rattle.copy_laws.specs.Shapes.{differences}

@@ -15,7 +15,8 @@ use Rattle.model.specs.Path.{Token, Limits}
 use Rattle.model.specs.Cutoff.{Config}
 use Rattle.model.specs.Arrive.{nonemitting, Here}
 use Rattle.model.specs.Passes.{no_tokens, emitting_pass, nonemitting_pass, State, dropped, done, during, start_token, start_work, start, check_frame, frame, fair_margin}
-use Rattle.model.specs.Accepted.{Ok, then, branches}
+use Rattle.model.specs.Accepted.{Ok}
+use Rattle.model.proofs.Accepted.{then, branches}
 use Rattle.model.specs.Checked.{GoodGraph}
 use Rattle.copy_laws.specs.Walks.{Heard}
 use Rattle.copy_laws.specs.Tables.{at_none, vacant_le, vacant_none}

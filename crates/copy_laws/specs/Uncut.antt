@@ -12,7 +12,8 @@ use Rattle.model.specs.Path.{Token, Limits}
 use Rattle.model.specs.Cutoff.{Config}
 use Rattle.model.specs.Arrive.{total, Here, Work}
 use Rattle.model.specs.Passes.{no_tokens, emitting_pass, nonemitting_pass, State, dropped, done, during, start_token, start_work, start, frame}
-use Rattle.model.specs.Accepted.{Ok, then}
+use Rattle.model.specs.Accepted.{Ok}
+use Rattle.model.proofs.Accepted.{then}
 use Rattle.model.specs.Checked.{GoodGraph}
 use Rattle.copy_laws.specs.Walks.{Heard}
 use Rattle.copy_laws.specs.Drops.{on_ok, drops_emitting, drops_nonemitting, drops_start, drops_frame}

@@ -13,7 +13,7 @@ use Rattle.model.specs.Basics.{◌≼◌}
 use Rattle.model.specs.Graph.{Arc}
 use Rattle.model.specs.Path.{Token, Table}
 use Rattle.model.specs.Arrive.{Pass, total, Here, Work, arriving, joined, place_of}
-use Rattle.model.specs.Came.{Came, came_cut, came_vacant, came_better, came_dropped, came_joined}
+use Rattle.model.proofs.Came.{Came, came_cut, came_vacant, came_better, came_dropped, came_joined}
 use Rattle.copy_laws.specs.Tables.{At, none≢some, some_same, at_new, at_old}
 use Rattle.copy_laws.specs.Active.{with_loser}
 

@@ -10,7 +10,8 @@ use Rattle.lists.specs.Members.{member_at}
 use Rattle.lists.specs.Tests.{or_neither}
 use Rattle.model.specs.Basics.{0f, Refusal as ModelRefusal}
 use Rattle.model.specs.Graph.{Graph, states, has_eps, runs_from0, check_graph}
-use Rattle.model.specs.Checked.{GoodGraph, checked}
+use Rattle.model.specs.Checked.{GoodGraph}
+use Rattle.model.proofs.Checked.{checked}
 use Rattle.model.specs.Path.{Limits}
 use Rattle.model.specs.Passes.{fitted, check_fit}
 use Rattle.copy_laws.specs.Sums.{All32, Floats32}

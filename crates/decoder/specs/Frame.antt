@@ -18,7 +18,8 @@ use Rattle.model.specs.Cutoff.{Config as Settings}
 use Rattle.model.specs.Arrive.{Here, Work as ModelWork}
 use Rattle.model.specs.Passes.{State, done, emitting_pass, nonemitting_pass, check_frame, frame}
 use Rattle.model.specs.Calls.{frame_call, Answer, refusal_answer, said, call, Said}
-use Rattle.model.specs.Accepted.{Ok, weaken}
+use Rattle.model.specs.Accepted.{Ok}
+use Rattle.model.proofs.Accepted.{weaken}
 use Rattle.copy_laws.specs.Walks.{Heard}
 use Rattle.copy_laws.specs.Tables.{At as TokenAt}
 use Rattle.copy_laws.specs.Shapes.{Falling}
@@ -120,6 +121,7 @@ module _ {g : Setting} {m : Lent} {qs eps : List ℕ} {T : Tables} {c : Config} 
 
 -- an active token stands in some place
 at_some : (ts : Table) (t : Token) → t ∈ tokens ts → (s : ℕ) × TokenAt ts s t
+at_some [] t m = elim m [ ]
 at_some (none ∷ ts) t m = let (s, e) = at_some ts t m in (suc s, e)
 at_some (some u ∷ ts) t (here e) = (0, ap some (sym e))
 at_some (some u ∷ ts) t (there m) = let (s, e) = at_some ts t m in (suc s, e)

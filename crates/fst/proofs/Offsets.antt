@@ -11,7 +11,7 @@ use borrow.Author.Tests.{le-leb, lt-leb, eq-eqb, ne_eqb}
 use Rattle.lists.specs.Tests.{never}
 use Rattle.fst.proofs.Walk.{at_end, in_turn}
 use Rattle.model.specs.Graph.{runs, runs_from0}
-use Rattle.model.specs.Checked.{offsets_run}
+use Rattle.model.proofs.Checked.{offsets_run}
 
 module _ (e : ℕ) (xs : List ℕ) where
   pub no_offsets : length xs ≡ 0 → false ≡ runs_from0 e xs

@@ -23,22 +23,22 @@ key_read {to_join_lem = to_join_lem} K {r} l a b = rw (b, a) (K.each to_join_lem
 
 pub record FilledTo (tk rs : List ℕ) (ls : List ℤ) (b used : ℕ) (to_join_lem : Bool) (order ks₀ ps₀ ks ps : List ℕ) (i : ℕ) : Type 0 where
   pub keys_length : length ks ≡ length ks₀
-  pub places-length : length ps ≡ length ps₀
+  pub places_length : length ps ≡ length ps₀
   pub keys : (k : ℕ) → k < i → KeyIs rs ls used (link_at tk b (get_or order k 0)) to_join_lem (get_or ks k 0)
   pub places : (k : ℕ) → k < i → get_or ps k 0 ≡ k
 
 module _ {tk rs : List ℕ} {ls : List ℤ} {b used : ℕ} {to_join_lem : Bool} {order ks₀ ps₀ : List ℕ} where
   pub filled_none : FilledTo tk rs ls b used to_join_lem order ks₀ ps₀ ks₀ ps₀ 0
-  filled_none = record { keys_length = refl; places-length = refl; keys = λ k l. absurd (omega arith); places = λ k l. absurd (omega arith) }
+  filled_none = record { keys_length = refl; places_length = refl; keys = λ k l. absurd (omega arith); places = λ k l. absurd (omega arith) }
 
   pub filled_next : {ks ps : List ℕ} {i : ℕ} → FilledTo tk rs ls b used to_join_lem order ks₀ ps₀ ks ps i → i < length ks₀ → i < length ps₀ → (key : ℕ) → KeyIs rs ls used (link_at tk b (get_or order i 0)) to_join_lem key
       → FilledTo tk rs ls b used to_join_lem order ks₀ ps₀ (set ks i key) (set ps i i) (i + 1)
   filled_next {ks} {ps} {i} F l m key K =
       let u = F.keys_length in
-      let v = F.places-length in
+      let v = F.places_length in
       record {
         keys_length = length-set ks i key ∙ u;
-        places-length = length-set ps i i ∙ v;
+        places_length = length-set ps i i ∙ v;
         keys = below_more (λ k. KeyIs rs ls used (link_at tk b (get_or order k 0)) to_join_lem (get_or (set ks i key) k 0)) i
             (λ k a. subst (KeyIs rs ls used (link_at tk b (get_or order k 0)) to_join_lem) (sym (get_or-set_other ks i k key 0 (λ e. omega arith))) (F.keys k a))
             (subst (KeyIs rs ls used (link_at tk b (get_or order i 0)) to_join_lem) (sym (get_or-set_same ks i key 0 (omega arith))) K);

@@ -23,6 +23,7 @@ range_at a (suc n) zero d l = omega arith
 range_at a (suc n) (suc i) d l = range_at (suc a) n i d (omega arith) ∙ omega arith
 
 pub range_from : (a n x : ℕ) → x ∈ range a n → (a ≤ x) × (x < a + n)
+range_from a zero x x3 = elim x3 [ ]
 range_from a (suc n) x (here e) = (omega arith, omega arith)
 range_from a (suc n) x (there m) = let z = range_from (suc a) n x m in let u = z.0 in let v = z.1 in (omega arith, omega arith)
 

@@ -11,7 +11,8 @@ use Rattle.model.specs.Graph.{has_eps}
 use Rattle.model.specs.Path.{Path, Token, Table}
 use Rattle.model.specs.Arrive.{Here, Work as ModelWork, push}
 use Rattle.model.specs.Passes.{push_from}
-use Rattle.model.specs.Accepted.{Ok, branches}
+use Rattle.model.specs.Accepted.{Ok}
+use Rattle.model.proofs.Accepted.{branches}
 use Rattle.tokens.specs.Layout.{place_in, held_at, NextActive}
 use Rattle.stores.specs.Shown.{Shown}
 use Rattle.stores.specs.Tables.{active_at, skip_to}

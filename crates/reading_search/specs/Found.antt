@@ -3,7 +3,8 @@ use Rattle.std.specs.Prelude.{◌≡◌, ℕ, ◌≤◌, ◌<◌, List, ℤ, len
 use Rattle.std.proofs.Common.{sym, arith}
 use Rattle.std.proofs.Math.Option.{Option, none, some}
 use Rattle.model.specs.Basics.{Outcome, ok, refused}
-use Rattle.model.specs.Search.{Listing, first_reading, first_is, readings-length}
+use Rattle.model.specs.Search.{Listing, first_reading}
+use Rattle.model.proofs.Search.{first_is, readings-length}
 use Rattle.reading_search.specs.declared.Found.{Found}
 use Rattle.reading_search.specs.declared.Found.TheVariants.{At, Nothing, Refused}
 

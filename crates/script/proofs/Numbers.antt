@@ -46,14 +46,14 @@ turned_back z t s = rw (turned z t s) (own z t)
 
 -- ---- f32
 
-is_nan : (x : Float) → is_nan x ≡ true → x ≡ nan
+is_nan_lem : (x : Float) → is_nan x ≡ true → x ≡ nan
 unfolding is_nan
-is_nan nan e = refl
-is_nan (inf s) e = never e
-is_nan (fin s m d) e = never e
+is_nan_lem nan e = refl
+is_nan_lem (inf s) e = never e
+is_nan_lem (fin s m d) e = never e
 
 pub nan_pattern : (w : ℕ) → 2139095040 < w % 2147483648 → of_bits binary32 w ≡ nan
-nan_pattern w h = is_nan (of_bits binary32 w) (sym (nan_bits_is binary32 w) ∙ nan_bits_above binary32 w ∙ lt-ltb _ _ h)
+nan_pattern w h = is_nan_lem (of_bits binary32 w) (sym (nan_bits_is binary32 w) ∙ nan_bits_above binary32 w ∙ lt-ltb _ _ h)
 
 pub no_nan_pattern : (w : ℕ) → w % 2147483648 ≤ 2139095040 → T (not (nan_bits binary32 w))
 no_nan_pattern w h = fails (nan_bits_above binary32 w ∙ le-ltb _ _ h)

@@ -23,7 +23,7 @@ returns c = let s = c.args in
     λ k. record {
       total = c.total-total.ensures k;
       graph = s.source.graph ⊕ weight_is k;
-      word = back (get_or s.olabels.now s.i (pos 0)) c.result-1.given k;
+      word = back (get_or s.olabels.now s.i (pos 0)) (search) k;
       phone = c.phone_after-phone.ensures k;
       target = get_or s.nextstates.now s.i 0;
     }

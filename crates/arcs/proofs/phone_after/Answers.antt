@@ -10,14 +10,11 @@ use Rattle.arcs.specs.declared.Pass.{Pass}
 use Rattle.arcs.specs.Part.{Labelled, PhoneAsks, phone_in}
 use Rattle.arcs.proofs.phone_after.Goals as goal
 
-labelled : (d : goal.After-enum-told) → Labelled d.before.before.args.ilabels.now d.before.before.args.tid2phone.now d.before.before.args.i
-labelled d = subst (λ (p : Pass). PhoneAsks p d.before.before.args.ilabels.now d.before.before.args.tid2phone.now d.before.before.args.i) d.enum_told.given.1 d.before.before.requires
-
 pub number_at-requires : goal.number_at-requires
-number_at-requires c = let P = labelled c in (P.here, P.label)
+number_at-requires c = let P : Labelled c.args.ilabels.now c.args.tid2phone.now c.args.i = subst (λ (p : Pass). PhoneAsks p c.args.ilabels.now c.args.tid2phone.now c.args.i) c.in-Emitting.is c.requires in (P.here, P.label)
 
 pub number_at-requires-in-Emitting : goal.number_at-requires-in-Emitting
-number_at-requires-in-Emitting c = let P = labelled c.before in
+number_at-requires-in-Emitting c = let P : Labelled c.args.ilabels.now c.args.tid2phone.now c.args.i = subst (λ (p : Pass). PhoneAsks p c.args.ilabels.now c.args.tid2phone.now c.args.i) c.in-Emitting.is c.requires in
     let e = c.number_at.ensures.0 in
     (let k = P.inside in omega arith, subst (λ (n : ℕ). T (non_neg (get_or c.args.tid2phone.now n (pos 0)))) (sym e) P.number)
 

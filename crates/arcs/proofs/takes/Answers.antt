@@ -14,7 +14,7 @@ twice true = refl
 twice false = refl
 
 pub returns-in-Emitting : goal.returns-in-Emitting
-returns-in-Emitting c = let z = get_or c.args.ilabels.now c.args.i (pos 0) in ap not (zero_test z c.result-1.given) ∙ twice (nonzero z) ∙ sym (ap (λ (p : Pass). takes_label p z) c.in-Emitting.is)
+returns-in-Emitting c = let z = get_or c.args.ilabels.now c.args.i (pos 0) in ap not (zero_test z search) ∙ twice (nonzero z) ∙ sym (ap (λ (p : Pass). takes_label p z) c.in-Emitting.is)
 
 pub returns-in-Nonemitting : goal.returns-in-Nonemitting
-returns-in-Nonemitting c = let z = get_or c.args.ilabels.now c.args.i (pos 0) in zero_test z c.result-in-Nonemitting-1.given ∙ sym (ap (λ (p : Pass). takes_label p z) c.in-Nonemitting.is)
+returns-in-Nonemitting c = let z = get_or c.args.ilabels.now c.args.i (pos 0) in zero_test z (search) ∙ sym (ap (λ (p : Pass). takes_label p z) c.in-Nonemitting.is)

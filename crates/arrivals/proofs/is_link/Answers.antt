@@ -14,4 +14,4 @@ pub returns-then-word-ne0 : goal.returns-then-word-ne0
 returns-then-word-ne0 c = rw (nonzero_yes c.args.a.word c.if-word-ne0.true)
 
 pub returns : goal.returns
-returns c = let z = c.args.a.word in rw (nonzero_no z (record { sfits = c.struct_told-1.given.1.1.0.1 }) c.if-word-ne0.false) (pos-nonzero c.starts.result ∙ ap (λ (n : ℕ). nonzero (pos n)) c.starts.ensures)
+returns c = let z = c.args.a.word in rw (nonzero_no z (record { sfits = search }) c.if-word-ne0.false) (pos-nonzero c.starts.result ∙ ap (λ (n : ℕ). nonzero (pos n)) c.starts.ensures)

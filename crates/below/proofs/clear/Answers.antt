@@ -15,8 +15,5 @@ bounds-lists-k-in-loop-k c = rw (length-set c.loop-k.lists (c.loop-k.k * 2) 0) (
 pub loop-k-preserved : goal.loop-k-preserved
 loop-k-preserved c = (omega arith, length-set (set c.loop-k.lists (c.loop-k.k * 2) 0) (c.loop-k.k * 2 + 1) 0 ∙ length-set c.loop-k.lists (c.loop-k.k * 2) 0 ∙ c.loop-k.invariant.1, cleared_more _ _ _ refl (let z = c.loop-k.invariant.1 in omega arith) (length-set c.loop-k.lists (c.loop-k.k * 2) 0) c.loop-k.invariant.2)
 
-pub shape_of-lists : goal.shape_of-lists
-shape_of-lists c = c.loop-k.invariant.1
-
 pub returns : goal.returns
 returns c = let e : c.loop-k.k ≡ c.args.used = omega arith in rw e at c.loop-k.invariant.2

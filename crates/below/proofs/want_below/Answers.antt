@@ -12,10 +12,7 @@ pub want_ways-requires : goal.want_ways-requires
 want_ways-requires c = (c.requires.0, c.requires.1, c.loop-r-test.true, c.loop-r.invariant.0, let z = c.loop-r.invariant.1 in let y = c.requires.2 in omega arith)
 
 pub loop-r-preserved : goal.loop-r-preserved
-loop-r-preserved c = (omega arith, c.want_ways.auto.1.1.1.1.1.0 ∙ c.loop-r.invariant.1, handed_next _ _ _ _ _ _ _ _ c.loop-r.r c.requires.0 c.loop-r-test.true c.loop-r.invariant.0 c.loop-r.invariant.2 c.want_ways.ensures)
-
-pub shape_of-lists : goal.shape_of-lists
-shape_of-lists c = c.loop-r.invariant.1
+loop-r-preserved c = (omega arith, c.want_ways.auto.lists ∙ c.loop-r.invariant.1, handed_next _ _ _ _ _ _ _ _ c.loop-r.r c.requires.0 c.loop-r-test.true c.loop-r.invariant.0 c.loop-r.invariant.2 c.want_ways.ensures)
 
 pub returns : goal.returns
 returns c = let e : c.loop-r.r ≡ 0 = omega arith in handed_all _ _ _ _ _ _ _ (rw e at c.loop-r.invariant.2)

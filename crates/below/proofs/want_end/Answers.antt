@@ -9,8 +9,5 @@ first_join-requires c = (c.requires.0, c.requires.1)
 pub want-requires : goal.want-requires
 want-requires c = let z = c.first_join.ensures.low in omega arith
 
-pub shape_of-lists : goal.shape_of-lists
-shape_of-lists c = c.want.auto.lists
-
 pub returns : goal.returns
 returns c = end_wanted _ _ c.requires.1 c.first_join.ensures c.want.ensures

@@ -10,7 +10,7 @@ pub loop-i-init : goal.loop-i-init
 loop-i-init c = (omega arith, refl, heads_none _)
 
 pub offset_bounds-heads-i : goal.offset_bounds-heads-i
-offset_bounds-heads-i c = record { fits = let g = c.well-formed.1.1.1.1.1.0.0 in let z = c.requires.0.long in omega arith }
+offset_bounds-heads-i c = record { fits = let g = c.type_inv.heads in let z = c.requires.0.long in omega arith }
 
 pub bounds-heads-i : goal.bounds-heads-i
 bounds-heads-i c = let z = c.requires.0.long in omega arith
@@ -28,10 +28,7 @@ pub loop-i-smaller : goal.loop-i-smaller
 loop-i-smaller c = omega arith
 
 pub loop-i-preserved : goal.loop-i-preserved
-loop-i-preserved c = (omega arith, c.want_end.auto.1.1.1.0 ∙ c.loop-i.invariant.1, heads_next _ _ _ c.link_at.ensures c.loop-i.invariant.2 c.want_end.ensures)
-
-pub shape_of-lists : goal.shape_of-lists
-shape_of-lists c = c.loop-i.invariant.1
+loop-i-preserved c = (omega arith, c.want_end.auto.lists ∙ c.loop-i.invariant.1, heads_next _ _ _ c.link_at.ensures c.loop-i.invariant.2 c.want_end.ensures)
 
 pub returns : goal.returns
 returns c = let e : c.loop-i.i ≡ c.args.n = omega arith in rw e at c.loop-i.invariant.2

@@ -12,10 +12,7 @@ pub kept_of-requires : goal.kept_of-requires
 kept_of-requires c = let w = c.requires.0.records in search rules
 
 pub want_end-requires : goal.want_end-requires
-want_end-requires c = (record { records = c.requires.0.records; labels = c.requires.0.labels; prev-low = c.requires.0.prev-low }, (let z = c.requires.0.kept_low (c.args.r - 1) (omega arith) in let e = c.kept_of.ensures in omega arith), c.requires.4)
-
-pub shape_of-lists : goal.shape_of-lists
-shape_of-lists c = c.want_end.auto.1.1.1.0
+want_end-requires c = (record { records = c.requires.0.records; labels = c.requires.0.labels; prev_low = c.requires.0.prev_low }, (let z = c.requires.0.kept_low (c.args.r - 1) (omega arith) in let e = c.kept_of.ensures in omega arith), c.requires.4)
 
 pub returns-then-cost_of-margin : goal.returns-then-cost_of-margin
 returns-then-cost_of-margin c = kept_wanted _ _ c.cost_of.ensures c.if-cost_of-margin.true c.kept_of.ensures c.want_end.ensures

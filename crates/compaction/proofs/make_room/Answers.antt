@@ -12,4 +12,4 @@ pub returns : goal.returns
 returns c =
     let a = c.args in
     let k = c.compact in
-    room_made_lem (store a.records.now a.labels.now a.gaps.now) (store k.new.0 k.new.1.0 k.new.1.1.0) a.tokens.now k.new.1.1.1.0 _ _ _ _ _ _ k.ensures
+    room_made_lem (store a.records.now a.labels.now a.gaps.now) (store k.new.records k.new.labels k.new.gaps) a.tokens.now k.new.tokens _ _ _ _ _ _ k.ensures

@@ -12,8 +12,8 @@ spread-requires c =
     let m = c.mark in
     let h = c.mark_held in
     let e = c.clear_marks in (
-      omega (arith, c.requires.room, m.auto.0, h.auto.0, e.auto.0),
-      λ k l. omega (arith, c.requires.prev-low k l, same_prev _ _ m.ensures.same k, same_prev _ _ h.ensures.same k, same_prev _ _ e.ensures.same k),
+      omega (arith, c.requires.room, m.auto.records, h.auto.records, e.auto.records),
+      λ k l. omega (arith, c.requires.prev_low k l, same_prev _ _ m.ensures.same k, same_prev _ _ h.ensures.same k, same_prev _ _ e.ensures.same k),
       λ k l. omega (arith, c.requires.kept_low k l, same_kept_lem _ _ m.ensures.same k, same_kept_lem _ _ h.ensures.same k, same_kept_lem _ _ e.ensures.same k),
     )
 

@@ -2,10 +2,10 @@
 use mathlib.Core.Path.{◌≡◌, refl, sym, ◌∙◌}
 use Prim.Native.Nat.{◌*◌, ◌-◌}
 use native.Mathlib.Omega.{arith}
-use lib.ListN.{length, get_or, set, length-set}
-use Rattle.lists.specs.Tests.{case}
+use lib.ListN.{get_or}
 use Rattle.tokens.specs.Held.{some_held, none_held, held_is}
 use Rattle.compaction.proofs.Compacting.{renumbered_none, renumbered_skip, renumbered_more}
+use Rattle.compaction.proofs.renumber.Goals.{then-has_token, else-has_token}
 use Rattle.compaction.proofs.renumber.Goals as goal
 
 pub loop-place-init : goal.loop-place-init
@@ -19,17 +19,13 @@ new_number-requires c = let l = c.loop-place in
 pub loop-place-preserved : goal.loop-place-preserved
 loop-place-preserved c = let l = c.loop-place in
     let rs = c.args.records.now in
-    case c.if-has_token.branch
-    (λ w.
-    let q : c.if-has_token.tokens ≡ set l.tokens (l.place * 4) w.2.result = w.3 in
-    let e = held_is l.tokens l.place (some_held _ (sym c.has_token.ensures ∙ w.0.taken)) in
-    (omega arith, rw q (simp length-set l.invariant.1), rw q (renumbered_more rs _ l.tokens l.place l.invariant.2 w.2.result (omega arith) (get_or l.tokens (l.place * 4) 0) e w.2.ensures)))
-    (λ w.
-    let q : c.if-has_token.tokens ≡ l.tokens = w.1 in
-    (omega arith, rw q l.invariant.1, rw q (renumbered_skip rs _ _ _ l.invariant.2 (none_held _ (sym c.has_token.ensures ∙ w.0.left)))))
-
-pub shape_of-tokens : goal.shape_of-tokens
-shape_of-tokens c = c.loop-place.invariant.1
+    elim c.if-has_token.branch [
+    | then-has_token w ↦
+      let e = held_is l.tokens l.place (some_held _ (sym c.has_token.ensures ∙ w.if-has_token.true)) in
+      (omega arith, c.if-has_token.auto.tokens ∙ l.invariant.1, rw w.tokens-is (renumbered_more rs _ l.tokens l.place l.invariant.2 w.new_number.result (omega arith) (get_or l.tokens (l.place * 4) 0) e w.new_number.ensures))
+    | else-has_token w ↦
+      (omega arith, c.if-has_token.auto.tokens ∙ l.invariant.1, rw w.tokens-is (renumbered_skip rs _ _ _ l.invariant.2 (none_held _ (sym c.has_token.ensures ∙ w.if-has_token.false))))
+    ]
 
 pub returns : goal.returns
 returns c = let e : c.loop-place.place ≡ c.args.places = omega arith in rw e at c.loop-place.invariant.2

@@ -13,10 +13,10 @@ pub slide_one-n-requires : goal.slide_one-n-requires
 slide_one-n-requires c =
     let l = c.loop-k in
     let sh = c.requires.0 in
-    let low = next_low _ (store l.records l.labels l.gaps) c.args.used l.k l.n l.invariant.5 sh c.loop-k-test.true in (
-      (l.invariant.1, omega arith, low.0, low.1),
-      (omega (arith, sh.room.records), omega (arith, sh.room.labels), omega (arith, sh.room.gaps)),
-    )
+    let low = next_low _ (store l.records l.labels l.gaps) c.args.used l.k l.n l.invariant.5 sh c.loop-k-test.true in record {
+      n_le_k = (l.invariant.1, omega arith, low.0, low.1);
+      k_in_bounds = (omega (arith, sh.room.records), omega (arith, sh.room.labels), omega (arith, sh.room.gaps));
+    }
 
 pub loop-k-preserved : goal.loop-k-preserved
 loop-k-preserved c =
@@ -24,20 +24,11 @@ loop-k-preserved c =
     let l = c.loop-k in (
       omega (arith, c.loop-k-test.true),
       o.ensures.few,
-      o.auto.0 ∙ l.invariant.2,
-      o.auto.1.0 ∙ l.invariant.3,
-      o.auto.1.1.0 ∙ l.invariant.4,
+      o.auto.records ∙ l.invariant.2,
+      o.auto.labels ∙ l.invariant.3,
+      o.auto.gaps ∙ l.invariant.4,
       o.ensures.next _ c.args.used c.loop-k-test.true c.requires.0 l.invariant.5,
     )
-
-pub shape_of-records : goal.shape_of-records
-shape_of-records c = c.loop-k.invariant.2
-
-pub shape_of-labels : goal.shape_of-labels
-shape_of-labels c = c.loop-k.invariant.3
-
-pub shape_of-gaps : goal.shape_of-gaps
-shape_of-gaps c = c.loop-k.invariant.4
 
 pub returns : goal.returns
 returns c = let e : c.loop-k.k ≡ c.args.used = omega arith in rw e at c.loop-k.invariant.5

@@ -9,17 +9,17 @@ use Rattle.compaction.proofs.slide_one.Goals as goal
 pub returns-then-new_number-eq0 : goal.returns-then-new_number-eq0
 returns-then-new_number-eq0 c =
     let a = c.args in
-    one_stays (store a.records.now a.labels.now a.gaps.now) a.k a.n c.requires.0.0 (sym c.new_number.ensures ∙ c.if-new_number-eq0.true)
+    one_stays (store a.records.now a.labels.now a.gaps.now) a.k a.n c.requires.n_le_k.0 (sym c.new_number.ensures ∙ c.if-new_number-eq0.true)
 
 pub new_number-new_prev-requires : goal.new_number-new_prev-requires
 new_number-new_prev-requires c =
     let e : c.args.k + 1 - 1 ≡ c.args.k = omega arith in
-    omega (arith, ap (prev_at c.args.records.now) e, c.prev_of-prev.ensures, c.requires.0.2)
+    omega (arith, ap (prev_at c.args.records.now) e, c.prev_of-prev.ensures, c.requires.n_le_k.2)
 
 pub new_number-new_kept-requires : goal.new_number-new_kept-requires
 new_number-new_kept-requires c =
     let e : c.args.k + 1 - 1 ≡ c.args.k = omega arith in
-    omega (arith, ap (kept_at c.args.records.now) e, c.kept_of-kept.ensures, c.requires.0.3)
+    omega (arith, ap (kept_at c.args.records.now) e, c.kept_of-kept.ensures, c.requires.n_le_k.3)
 
 pub returns : goal.returns
 returns c =
@@ -32,6 +32,6 @@ returns c =
     let b = c.kept_of-kept in
     let d = c.prev_of-prev in
     let n = c.new_number in
-    one_moves (store a.records.now a.labels.now a.gaps.now) a.k a.n c.requires.0.0 p.result q.result d.result b.result
-    (λ e. c.if-new_number-eq0.false (n.ensures ∙ e)) c.requires.1.0 c.requires.1.1 c.requires.1.2 d.ensures b.ensures p.ensures q.ensures
-    (store mn.new.0 ml.new.0 mg.new.0) (λ i. record { records = mn.ensures i; labels = ml.ensures i; gaps = mg.ensures i })
+    one_moves (store a.records.now a.labels.now a.gaps.now) a.k a.n c.requires.n_le_k.0 p.result q.result d.result b.result
+    (λ e. c.if-new_number-eq0.false (n.ensures ∙ e)) c.requires.k_in_bounds.0 c.requires.k_in_bounds.1 c.requires.k_in_bounds.2 d.ensures b.ensures p.ensures q.ensures
+    (store mn.new.records ml.new.labels mg.new.gaps) (λ i. record { records = mn.ensures i; labels = ml.ensures i; gaps = mg.ensures i })

@@ -21,10 +21,7 @@ pub loop-k-preserved : goal.loop-k-preserved
 loop-k-preserved c =
     let o = c.hand_on in
     let k = c.loop-k.k in
-    (omega arith, o.auto.0 ∙ c.loop-k.invariant.1, handed_next _ _ _ _ k (omega arith) (omega arith) (c.requires.1 (k - 1) (omega arith)) (c.requires.2 (k - 1) (omega arith)) c.loop-k.invariant.2 o.ensures)
-
-pub shape_of-records : goal.shape_of-records
-shape_of-records c = c.loop-k.invariant.1
+    (omega arith, o.auto.records ∙ c.loop-k.invariant.1, handed_next _ _ _ _ k (omega arith) (omega arith) (c.requires.1 (k - 1) (omega arith)) (c.requires.2 (k - 1) (omega arith)) c.loop-k.invariant.2 o.ensures)
 
 pub returns : goal.returns
 returns c = let e : c.loop-k.k ≡ 0 = omega arith in handed_all _ _ _ (rw e at c.loop-k.invariant.2)

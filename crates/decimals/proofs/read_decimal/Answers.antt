@@ -17,17 +17,13 @@ pub slice_bounds-digits-end : goal.slice_bounds-digits-end
 slice_bounds-digits-end c = omega (arith, decimal-length c.numbers_in-number.result.third)
 
 pub slice_bounds-written-end : goal.slice_bounds-written-end
-slice_bounds-written-end c = omega (arith, decimal-length c.numbers_in-number.result.third, length-take c.write_decimal-end.result c.write_decimal-end.new.1.0)
-
--- what was written is compared
-written : (c : goal.After-same) → take c.write_decimal-end.result c.write_decimal-end.new.1.0 ≡ decimal c.numbers_in-number.result.third
-written c =
-    let call = c.write_decimal-end in
-    let n = c.numbers_in-number.result.third in
-    stored_front (decimal n) call.ensures (omega (arith, decimal-length n))
+slice_bounds-written-end c = omega (arith, decimal-length c.numbers_in-number.result.third, length-take c.write_decimal-end.result c.write_decimal-end.new.out)
 
 pub returns-then-same : goal.returns-then-same
-returns-then-same c = (omega arith, sym (written c.before) ∙ c.same.ensures.0 c.if-same.true)
+returns-then-same c =
+    let n = c.numbers_in-number.result.third in
+    let written = stored_front (decimal n) c.write_decimal-end.ensures (omega (arith, decimal-length n)) in
+    (omega arith, sym written ∙ c.same.ensures.0 c.if-same.true)
 
 pub returns : goal.returns
 returns c n f d =
@@ -35,4 +31,6 @@ returns c n f d =
     let found = c.numbers_in-number in
     let bs = c.args.bytes.now in
     let e : found.result.third ≡ n = ap (λ (x : Numbers). x.third) (found.ensures ∙ ap numbers_in (sym d) ∙ decimal_read n none f refl) in
-    never (sym c.if-same.false ∙ s.ensures.1 (written c.before ∙ ap decimal e ∙ d))
+    let m = found.result.third in
+    let written = stored_front (decimal m) c.write_decimal-end.ensures (omega (arith, decimal-length m)) in
+    never (sym c.if-same.false ∙ s.ensures.1 (written ∙ ap decimal e ∙ d))

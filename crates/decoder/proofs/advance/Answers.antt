@@ -24,31 +24,10 @@ go_back-requires c = let f = c.requires.left.is.fixed in
     (f.side, let z = f.stores.tokens in let k = c.run_frame.auto.tokens in omega arith, let z = f.stores.sums in let k = c.run_frame.auto.sums in omega arith)
 
 pub overflow_add-decoder : goal.overflow_add-decoder
-overflow_add-decoder c = let R = c.requires.left.is in let z = (can R c.args.loglikes.now (no_fault R c.args.loglikes.now _ c.check_frame-wrong.ensures c.if-wrong-ne0.false)).few in let k = R.frames-are in record { fits = omega arith }
+overflow_add-decoder c = let R = c.requires.left.is in let z = (can R c.args.loglikes.now (no_fault R c.args.loglikes.now _ c.check_frame-wrong.ensures c.if-wrong-ne0.false)).few in let k = R.frames_are in record { fits = omega arith }
 
 pub turned-requires : goal.turned-requires
 turned-requires c = c.requires.left.is.fixed.side
-
-pub shape_of-tokens-in-Refused : goal.shape_of-tokens-in-Refused
-shape_of-tokens-in-Refused c = c.run_frame.auto.tokens
-
-pub shape_of-sums-in-Refused : goal.shape_of-sums-in-Refused
-shape_of-sums-in-Refused c = c.run_frame.auto.sums
-
-pub shape_of-records-in-Refused : goal.shape_of-records-in-Refused
-shape_of-records-in-Refused c = c.run_frame.auto.records
-
-pub shape_of-labels-in-Refused : goal.shape_of-labels-in-Refused
-shape_of-labels-in-Refused c = c.run_frame.auto.labels
-
-pub shape_of-gaps-in-Refused : goal.shape_of-gaps-in-Refused
-shape_of-gaps-in-Refused c = c.run_frame.auto.gaps
-
-pub shape_of-queue-in-Refused : goal.shape_of-queue-in-Refused
-shape_of-queue-in-Refused c = c.run_frame.auto.queue
-
-pub shape_of-scratch-in-Refused : goal.shape_of-scratch-in-Refused
-shape_of-scratch-in-Refused c = c.run_frame.auto.scratch
 
 pub returns-in-Refused : goal.returns-in-Refused
 returns-in-Refused c =
@@ -56,27 +35,6 @@ returns-in-Refused c =
       answer = λ g s l fs st R. frame_back R _ (no_fault R _ _ c.check_frame-wrong.ensures c.if-wrong-ne0.false) _ refl _ c.setting_of.ensures _ refl _ (record { tokens = c.run_frame.auto.tokens; sums = c.run_frame.auto.sums; records = c.run_frame.auto.records; labels = c.run_frame.auto.labels; gaps = c.run_frame.auto.gaps }) _ _ c.run_frame.ensures _ c.in-Refused.is _ c.go_back.ensures _ c.refused_at-in-Refused.ensures;
       untouched = λ z. absurd (z (sym c.check_frame-wrong.ensures ∙ c.if-wrong-ne0.false));
     }
-
-pub shape_of-tokens-in-On : goal.shape_of-tokens-in-On
-shape_of-tokens-in-On c = c.run_frame.auto.tokens
-
-pub shape_of-sums-in-On : goal.shape_of-sums-in-On
-shape_of-sums-in-On c = c.run_frame.auto.sums
-
-pub shape_of-records-in-On : goal.shape_of-records-in-On
-shape_of-records-in-On c = c.run_frame.auto.records
-
-pub shape_of-labels-in-On : goal.shape_of-labels-in-On
-shape_of-labels-in-On c = c.run_frame.auto.labels
-
-pub shape_of-gaps-in-On : goal.shape_of-gaps-in-On
-shape_of-gaps-in-On c = c.run_frame.auto.gaps
-
-pub shape_of-queue-in-On : goal.shape_of-queue-in-On
-shape_of-queue-in-On c = c.run_frame.auto.queue
-
-pub shape_of-scratch-in-On : goal.shape_of-scratch-in-On
-shape_of-scratch-in-On c = c.run_frame.auto.scratch
 
 pub returns-in-On : goal.returns-in-On
 returns-in-On c =

@@ -8,40 +8,19 @@ use Rattle.decoder.specs.Fit.{lengths_of, new_decoder, all_known, fill_asks, few
 use Rattle.decoder.proofs.fit.Goals as goal
 
 pub returns-then-fit_wrong : goal.returns-then-fit_wrong
-returns-then-fit_wrong c = let a = c.args in fit_refused (graph_of a.offsets.now a.ilabels.now a.olabels.now a.weights.now a.nextstates.now a.finals.now a.tid2pdf.now a.tid2phone.now a.start a.pdfs) (graph_tables a.offsets.now a.ilabels.now a.olabels.now a.weights.now a.nextstates.now a.tid2pdf.now a.tid2phone.now) (lent a.tokens.now a.sums.now a.records.now a.labels.now a.gaps.now) (lengths_of (lent a.tokens.now a.sums.now a.records.now a.labels.now a.gaps.now) a.eps.now a.scratch.now a.keys.now a.places.now a.own.now a.heads.now a.list.now a.lists.now a.route.now a.history-keys.now a.history-skips.now a.kept-hashes.now a.kept-links.now a.kept-sums.now a.order.now) a.queue.now a.eps.now a.config c.in-Accepted.graph (sym c.in-Accepted.is ∙ c.build.ensures) (sym c.fit_wrong.ensures ∙ c.if-fit_wrong.true) _ c.refused.ensures
+returns-then-fit_wrong c = let a = c.args in fit_refused (graph_of a.offsets.now a.ilabels.now a.olabels.now a.weights.now a.nextstates.now a.finals.now a.tid2pdf.now a.tid2phone.now a.start a.pdfs) (graph_tables a.offsets.now a.ilabels.now a.olabels.now a.weights.now a.nextstates.now a.tid2pdf.now a.tid2phone.now) (lent a.tokens.now a.sums.now a.records.now a.labels.now a.gaps.now) (lengths_of (lent a.tokens.now a.sums.now a.records.now a.labels.now a.gaps.now) a.eps.now a.scratch.now a.keys.now a.places.now a.own.now a.heads.now a.list.now a.lists.now a.route.now a.history_keys.now a.history_skips.now a.kept_hashes.now a.kept_links.now a.kept_sums.now a.order.now) a.queue.now a.eps.now a.config c.in-Accepted.graph (sym c.in-Accepted.is ∙ c.build.ensures) (sym c.fit_wrong.ensures ∙ c.if-fit_wrong.true) _ c.refused.ensures
 
 pub fill_eps-requires : goal.fill_eps-requires
-fill_eps-requires c = let a = c.args in fill_asks (graph_of a.offsets.now a.ilabels.now a.olabels.now a.weights.now a.nextstates.now a.finals.now a.tid2pdf.now a.tid2phone.now a.start a.pdfs) (graph_tables a.offsets.now a.ilabels.now a.olabels.now a.weights.now a.nextstates.now a.tid2pdf.now a.tid2phone.now) (lent a.tokens.now a.sums.now a.records.now a.labels.now a.gaps.now) (lengths_of (lent a.tokens.now a.sums.now a.records.now a.labels.now a.gaps.now) a.eps.now a.scratch.now a.keys.now a.places.now a.own.now a.heads.now a.list.now a.lists.now a.route.now a.history-keys.now a.history-skips.now a.kept-hashes.now a.kept-links.now a.kept-sums.now a.order.now) a.queue.now a.eps.now a.config c.in-Accepted.graph (sym c.in-Accepted.is ∙ c.build.ensures) (record { tokens = refl; sums = refl; records = refl; labels = refl; gaps = refl; eps-are = refl }) (sym c.fit_wrong.ensures ∙ c.if-fit_wrong.false)
+fill_eps-requires c = let a = c.args in fill_asks (graph_of a.offsets.now a.ilabels.now a.olabels.now a.weights.now a.nextstates.now a.finals.now a.tid2pdf.now a.tid2phone.now a.start a.pdfs) (graph_tables a.offsets.now a.ilabels.now a.olabels.now a.weights.now a.nextstates.now a.tid2pdf.now a.tid2phone.now) (lent a.tokens.now a.sums.now a.records.now a.labels.now a.gaps.now) (lengths_of (lent a.tokens.now a.sums.now a.records.now a.labels.now a.gaps.now) a.eps.now a.scratch.now a.keys.now a.places.now a.own.now a.heads.now a.list.now a.lists.now a.route.now a.history_keys.now a.history_skips.now a.kept_hashes.now a.kept_links.now a.kept_sums.now a.order.now) a.queue.now a.eps.now a.config c.in-Accepted.graph (sym c.in-Accepted.is ∙ c.build.ensures) (record { tokens = refl; sums = refl; records = refl; labels = refl; gaps = refl; eps_are = refl }) (sym c.fit_wrong.ensures ∙ c.if-fit_wrong.false)
 
 pub overflow_cast-record_places : goal.overflow_cast-record_places
-overflow_cast-record_places c = let a = c.args in let z = few_records (graph_of a.offsets.now a.ilabels.now a.olabels.now a.weights.now a.nextstates.now a.finals.now a.tid2pdf.now a.tid2phone.now a.start a.pdfs) (graph_tables a.offsets.now a.ilabels.now a.olabels.now a.weights.now a.nextstates.now a.tid2pdf.now a.tid2phone.now) (lent a.tokens.now a.sums.now a.records.now a.labels.now a.gaps.now) (lengths_of (lent a.tokens.now a.sums.now a.records.now a.labels.now a.gaps.now) a.eps.now a.scratch.now a.keys.now a.places.now a.own.now a.heads.now a.list.now a.lists.now a.route.now a.history-keys.now a.history-skips.now a.kept-hashes.now a.kept-links.now a.kept-sums.now a.order.now) a.queue.now a.eps.now a.config c.in-Accepted.graph (sym c.in-Accepted.is ∙ c.build.ensures) (record { tokens = refl; sums = refl; records = refl; labels = refl; gaps = refl; eps-are = refl }) (sym c.fit_wrong.ensures ∙ c.if-fit_wrong.false) in let e = c.record_places.ensures in record { fits = omega arith }
+overflow_cast-record_places c = let a = c.args in let z = few_records (graph_of a.offsets.now a.ilabels.now a.olabels.now a.weights.now a.nextstates.now a.finals.now a.tid2pdf.now a.tid2phone.now a.start a.pdfs) (graph_tables a.offsets.now a.ilabels.now a.olabels.now a.weights.now a.nextstates.now a.tid2pdf.now a.tid2phone.now) (lent a.tokens.now a.sums.now a.records.now a.labels.now a.gaps.now) (lengths_of (lent a.tokens.now a.sums.now a.records.now a.labels.now a.gaps.now) a.eps.now a.scratch.now a.keys.now a.places.now a.own.now a.heads.now a.list.now a.lists.now a.route.now a.history_keys.now a.history_skips.now a.kept_hashes.now a.kept_links.now a.kept_sums.now a.order.now) a.queue.now a.eps.now a.config c.in-Accepted.graph (sym c.in-Accepted.is ∙ c.build.ensures) (record { tokens = refl; sums = refl; records = refl; labels = refl; gaps = refl; eps_are = refl }) (sym c.fit_wrong.ensures ∙ c.if-fit_wrong.false) in let e = c.record_places.ensures in record { fits = omega arith }
 
 pub begin_within-requires : goal.begin_within-requires
-begin_within-requires c = let a = c.args in begin_asks (graph_of a.offsets.now a.ilabels.now a.olabels.now a.weights.now a.nextstates.now a.finals.now a.tid2pdf.now a.tid2phone.now a.start a.pdfs) (graph_tables a.offsets.now a.ilabels.now a.olabels.now a.weights.now a.nextstates.now a.tid2pdf.now a.tid2phone.now) (lent a.tokens.now a.sums.now a.records.now a.labels.now a.gaps.now) (lengths_of (lent a.tokens.now a.sums.now a.records.now a.labels.now a.gaps.now) a.eps.now a.scratch.now a.keys.now a.places.now a.own.now a.heads.now a.list.now a.lists.now a.route.now a.history-keys.now a.history-skips.now a.kept-hashes.now a.kept-links.now a.kept-sums.now a.order.now) a.queue.now a.eps.now a.config c.in-Accepted.graph (sym c.in-Accepted.is ∙ c.build.ensures) (record { tokens = refl; sums = refl; records = refl; labels = refl; gaps = refl; eps-are = refl }) (sym c.fit_wrong.ensures ∙ c.if-fit_wrong.false) (record { offsets = refl; ilabels = refl; olabels = refl; weights = refl; nextstates = refl; pdfs = refl; phones = refl; heard = tt }) (record { weights = all_known _ c.shared_slice_known-16-1.given; finals = all_known _ c.shared_slice_known-18-1.given }) _ c.fill_eps.auto.1.1.0 c.fill_eps.ensures _ (c.new_decoder-d.ensures ∙ ap (new_decoder c.in-Accepted.graph c.args.config) c.record_places.ensures)
+begin_within-requires c = let a = c.args in begin_asks (graph_of a.offsets.now a.ilabels.now a.olabels.now a.weights.now a.nextstates.now a.finals.now a.tid2pdf.now a.tid2phone.now a.start a.pdfs) (graph_tables a.offsets.now a.ilabels.now a.olabels.now a.weights.now a.nextstates.now a.tid2pdf.now a.tid2phone.now) (lent a.tokens.now a.sums.now a.records.now a.labels.now a.gaps.now) (lengths_of (lent a.tokens.now a.sums.now a.records.now a.labels.now a.gaps.now) a.eps.now a.scratch.now a.keys.now a.places.now a.own.now a.heads.now a.list.now a.lists.now a.route.now a.history_keys.now a.history_skips.now a.kept_hashes.now a.kept_links.now a.kept_sums.now a.order.now) a.queue.now a.eps.now a.config c.in-Accepted.graph (sym c.in-Accepted.is ∙ c.build.ensures) (record { tokens = refl; sums = refl; records = refl; labels = refl; gaps = refl; eps_are = refl }) (sym c.fit_wrong.ensures ∙ c.if-fit_wrong.false) (record { offsets = refl; ilabels = refl; olabels = refl; weights = refl; nextstates = refl; pdfs = refl; phones = refl; heard = tt }) (record { weights = all_known _ c.shared_slice_known-16-1.given; finals = all_known _ c.shared_slice_known-18-1.given }) _ c.fill_eps.auto.table c.fill_eps.ensures _ (c.new_decoder-d.ensures ∙ ap (new_decoder c.in-Accepted.graph c.args.config) c.record_places.ensures)
 
 pub returns-in-Refused : goal.returns-in-Refused
-returns-in-Refused c = let a = c.args in graph_refused (graph_of a.offsets.now a.ilabels.now a.olabels.now a.weights.now a.nextstates.now a.finals.now a.tid2pdf.now a.tid2phone.now a.start a.pdfs) (graph_tables a.offsets.now a.ilabels.now a.olabels.now a.weights.now a.nextstates.now a.tid2pdf.now a.tid2phone.now) (lent a.tokens.now a.sums.now a.records.now a.labels.now a.gaps.now) (lengths_of (lent a.tokens.now a.sums.now a.records.now a.labels.now a.gaps.now) a.eps.now a.scratch.now a.keys.now a.places.now a.own.now a.heads.now a.list.now a.lists.now a.route.now a.history-keys.now a.history-skips.now a.kept-hashes.now a.kept-links.now a.kept-sums.now a.order.now) a.queue.now a.eps.now a.config c.in-Refused.why (sym c.in-Refused.is ∙ c.build.ensures)
-
-pub shape_of-tokens : goal.shape_of-tokens
-shape_of-tokens c = c.begin_within.auto.tokens
-
-pub shape_of-sums : goal.shape_of-sums
-shape_of-sums c = c.begin_within.auto.sums
-
-pub shape_of-records : goal.shape_of-records
-shape_of-records c = c.begin_within.auto.records
-
-pub shape_of-labels : goal.shape_of-labels
-shape_of-labels c = c.begin_within.auto.labels
-
-pub shape_of-gaps : goal.shape_of-gaps
-shape_of-gaps c = c.begin_within.auto.gaps
-
-pub shape_of-queue : goal.shape_of-queue
-shape_of-queue c = c.begin_within.auto.queue
-
-pub shape_of-eps : goal.shape_of-eps
-shape_of-eps c = c.fill_eps.auto.1.1.0
+returns-in-Refused c = let a = c.args in graph_refused (graph_of a.offsets.now a.ilabels.now a.olabels.now a.weights.now a.nextstates.now a.finals.now a.tid2pdf.now a.tid2phone.now a.start a.pdfs) (graph_tables a.offsets.now a.ilabels.now a.olabels.now a.weights.now a.nextstates.now a.tid2pdf.now a.tid2phone.now) (lent a.tokens.now a.sums.now a.records.now a.labels.now a.gaps.now) (lengths_of (lent a.tokens.now a.sums.now a.records.now a.labels.now a.gaps.now) a.eps.now a.scratch.now a.keys.now a.places.now a.own.now a.heads.now a.list.now a.lists.now a.route.now a.history_keys.now a.history_skips.now a.kept_hashes.now a.kept_links.now a.kept_sums.now a.order.now) a.queue.now a.eps.now a.config c.in-Refused.why (sym c.in-Refused.is ∙ c.build.ensures)
 
 pub returns-else-fit_wrong : goal.returns-else-fit_wrong
-returns-else-fit_wrong c = let a = c.args in fit_called_lem (graph_of a.offsets.now a.ilabels.now a.olabels.now a.weights.now a.nextstates.now a.finals.now a.tid2pdf.now a.tid2phone.now a.start a.pdfs) (graph_tables a.offsets.now a.ilabels.now a.olabels.now a.weights.now a.nextstates.now a.tid2pdf.now a.tid2phone.now) (lent a.tokens.now a.sums.now a.records.now a.labels.now a.gaps.now) (lengths_of (lent a.tokens.now a.sums.now a.records.now a.labels.now a.gaps.now) a.eps.now a.scratch.now a.keys.now a.places.now a.own.now a.heads.now a.list.now a.lists.now a.route.now a.history-keys.now a.history-skips.now a.kept-hashes.now a.kept-links.now a.kept-sums.now a.order.now) a.queue.now a.eps.now a.config c.in-Accepted.graph (sym c.in-Accepted.is ∙ c.build.ensures) (record { tokens = refl; sums = refl; records = refl; labels = refl; gaps = refl; eps-are = refl }) (sym c.fit_wrong.ensures ∙ c.if-fit_wrong.false) (record { offsets = refl; ilabels = refl; olabels = refl; weights = refl; nextstates = refl; pdfs = refl; phones = refl; heard = tt }) (record { weights = all_known _ c.shared_slice_known-16-1.given; finals = all_known _ c.shared_slice_known-18-1.given }) _ c.fill_eps.auto.1.1.0 c.fill_eps.ensures _ (c.new_decoder-d.ensures ∙ ap (new_decoder c.in-Accepted.graph c.args.config) c.record_places.ensures) _ _ _ c.begin_within.ensures (record { tokens = c.begin_within.auto.tokens; sums = c.begin_within.auto.sums; records = c.begin_within.auto.records; labels = c.begin_within.auto.labels; gaps = c.begin_within.auto.gaps }) c.begin_within.auto.queue _ c.fitted_by.ensures
+returns-else-fit_wrong c = let a = c.args in fit_called_lem (graph_of a.offsets.now a.ilabels.now a.olabels.now a.weights.now a.nextstates.now a.finals.now a.tid2pdf.now a.tid2phone.now a.start a.pdfs) (graph_tables a.offsets.now a.ilabels.now a.olabels.now a.weights.now a.nextstates.now a.tid2pdf.now a.tid2phone.now) (lent a.tokens.now a.sums.now a.records.now a.labels.now a.gaps.now) (lengths_of (lent a.tokens.now a.sums.now a.records.now a.labels.now a.gaps.now) a.eps.now a.scratch.now a.keys.now a.places.now a.own.now a.heads.now a.list.now a.lists.now a.route.now a.history_keys.now a.history_skips.now a.kept_hashes.now a.kept_links.now a.kept_sums.now a.order.now) a.queue.now a.eps.now a.config c.in-Accepted.graph (sym c.in-Accepted.is ∙ c.build.ensures) (record { tokens = refl; sums = refl; records = refl; labels = refl; gaps = refl; eps_are = refl }) (sym c.fit_wrong.ensures ∙ c.if-fit_wrong.false) (record { offsets = refl; ilabels = refl; olabels = refl; weights = refl; nextstates = refl; pdfs = refl; phones = refl; heard = tt }) (record { weights = all_known _ c.shared_slice_known-16-1.given; finals = all_known _ c.shared_slice_known-18-1.given }) _ c.fill_eps.auto.table c.fill_eps.ensures _ (c.new_decoder-d.ensures ∙ ap (new_decoder c.in-Accepted.graph c.args.config) c.record_places.ensures) _ _ _ c.begin_within.ensures (record { tokens = c.begin_within.auto.tokens; sums = c.begin_within.auto.sums; records = c.begin_within.auto.records; labels = c.begin_within.auto.labels; gaps = c.begin_within.auto.gaps }) c.begin_within.auto.queue _ c.fitted_by.ensures

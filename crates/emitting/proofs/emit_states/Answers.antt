@@ -18,24 +18,6 @@ loop-s-init c = let N = c.next_active-s.ensures in (N.upto, N.active, lens_self 
 pub emit_state-requires : goal.emit_state-requires
 emit_state-requires c = (emit_now c.requires _ (c.loop-s.invariant.4 c.requires) c.loop-s.invariant.3, (c.loop-s-test.true, c.loop-s.invariant.1 c.loop-s-test.true))
 
-pub shape_of-tokens-in-Refused : goal.shape_of-tokens-in-Refused
-shape_of-tokens-in-Refused c = c.emit_state.auto.tokens ∙ c.loop-s.invariant.2.tokens
-
-pub shape_of-sums-in-Refused : goal.shape_of-sums-in-Refused
-shape_of-sums-in-Refused c = c.emit_state.auto.sums ∙ c.loop-s.invariant.2.sums
-
-pub shape_of-records-in-Refused : goal.shape_of-records-in-Refused
-shape_of-records-in-Refused c = c.emit_state.auto.records ∙ c.loop-s.invariant.2.records
-
-pub shape_of-labels-in-Refused : goal.shape_of-labels-in-Refused
-shape_of-labels-in-Refused c = c.emit_state.auto.labels ∙ c.loop-s.invariant.2.labels
-
-pub shape_of-gaps-in-Refused : goal.shape_of-gaps-in-Refused
-shape_of-gaps-in-Refused c = c.emit_state.auto.gaps ∙ c.loop-s.invariant.2.gaps
-
-pub shape_of-queue-in-Refused : goal.shape_of-queue-in-Refused
-shape_of-queue-in-Refused c = c.emit_state.auto.queue ∙ c.loop-s.invariant.3
-
 pub returns-in-Refused : goal.returns-in-Refused
 returns-in-Refused c = λ G. far_stop G _ (c.loop-s.invariant.4 G) (c.loop-s-test.true, c.loop-s.invariant.1 c.loop-s-test.true) c.loop-s.invariant.3 _ c.emit_state.ensures _ c.in-Refused.is
 
@@ -60,24 +42,6 @@ loop-s-preserved c = let N = c.next_active-s-in-loop-s.ensures in (
   c.emit_state.auto.queue ∙ c.loop-s.invariant.3,
   λ G. far_next G _ (c.loop-s.invariant.4 G) (c.loop-s-test.true, c.loop-s.invariant.1 c.loop-s-test.true) c.loop-s.invariant.3 _ c.emit_state.ensures _ c.in-On.is _ N,
 )
-
-pub shape_of-tokens : goal.shape_of-tokens
-shape_of-tokens c = c.loop-s.invariant.2.tokens
-
-pub shape_of-sums : goal.shape_of-sums
-shape_of-sums c = c.loop-s.invariant.2.sums
-
-pub shape_of-records : goal.shape_of-records
-shape_of-records c = c.loop-s.invariant.2.records
-
-pub shape_of-labels : goal.shape_of-labels
-shape_of-labels c = c.loop-s.invariant.2.labels
-
-pub shape_of-gaps : goal.shape_of-gaps
-shape_of-gaps c = c.loop-s.invariant.2.gaps
-
-pub shape_of-queue : goal.shape_of-queue
-shape_of-queue c = c.loop-s.invariant.3
 
 pub returns : goal.returns
 returns c = λ G. far_end G _ (c.loop-s.invariant.4 G) c.loop-s-test.false

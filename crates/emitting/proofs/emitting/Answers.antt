@@ -22,8 +22,5 @@ emit_states-requires c = states_given c.requires.0 _ _ (c.get_cutoff-cut.ensures
 pub returns-in-Refused : goal.returns-in-Refused
 returns-in-Refused c = λ G. look_refused G _ _ (c.get_cutoff-cut.ensures _ (costs G) G.fine) _ refl _ c.clear.ensures c.clear.auto.tokens _ c.look.result (c.look.ensures (look_given G _ _ (c.get_cutoff-cut.ensures _ (costs G) G.fine))) c.in-Refused.is
 
-pub shape_of-scratch-in-Next : goal.shape_of-scratch-in-Next
-shape_of-scratch-in-Next c = c.get_cutoff-cut.auto.1.1.1.1.1.0
-
 pub returns-in-Next : goal.returns-in-Next
 returns-in-Next c = λ G. states_done G _ _ (c.get_cutoff-cut.ensures _ (costs G) G.fine) _ c.offset_of.ensures _ c.clear.ensures c.clear.auto.tokens _ _ _ c.look.result _ (c.look.ensures (look_given G _ _ (c.get_cutoff-cut.ensures _ (costs G) G.fine))) c.in-Next.is c.emit_states.ensures

@@ -18,9 +18,6 @@ look_at-requires c = (c.requires, c.loop-i-test.true)
 pub returns-in-Refused : goal.returns-in-Refused
 returns-in-Refused c = look_stops c.args.ilabels.now c.args.weights.now c.args.tid2pdf.now c.args.loglikes.now c.args.offset c.args.adaptive c.args.cost (length c.args.ilabels.now - c.loop-i.i) c.loop-i.i c.loop-i.next _ c.look_at.ensures c.loop-i.invariant.1 (let h = c.loop-i-test.true in omega arith) _ c.in-Refused.is
 
-pub overflow_step-i : goal.overflow_step-i
-overflow_step-i c = record { fits = next_fits _ _ _ c.loop-i-test.true c.well-formed.0.0 }
-
 pub loop-i-smaller : goal.loop-i-smaller
 loop-i-smaller c = let h = c.loop-i-test.true in omega arith
 

@@ -10,14 +10,6 @@ use Rattle.emitting.specs.Look.{look_total, look_skips, look_refuses, look_lower
 use borrow.Author.Rules.{rules}
 use Rattle.emitting.proofs.look_at.Goals as goal
 
--- the sums of the look
-sums-are : (d : goal.After-loglike)
-    → get_or d.before.before.before.before.before.before.args.weights.now d.before.before.before.before.before.before.args.i nan ⊕ d.before.before.before.before.before.before.args.offset ⊖ d.loglike.result ⊕ d.before.before.before.before.before.before.args.cost
-    ≡ look_total d.before.before.before.before.before.before.args.ilabels.now d.before.before.before.before.before.before.args.weights.now d.before.before.before.before.before.before.args.tid2pdf.now d.before.before.before.before.before.before.args.loglikes.now d.before.before.before.before.before.before.args.offset d.before.before.before.before.before.before.args.adaptive d.before.before.before.before.before.before.args.cost d.before.before.before.before.before.before.args.i
-sums-are d =
-    ap₂ (λ (w l : Float). w ⊕ d.before.before.before.before.before.before.args.offset ⊖ l ⊕ d.before.before.before.before.before.before.args.cost)
-    (get_d_any d.before.before.before.before.before.before.args.weights.now d.before.before.before.before.before.before.args.i nan 0f (let e = d.before.before.before.before.before.before.requires.0.weights in let l = d.before.before.before.before.before.before.requires.1 in omega arith)) d.loglike.ensures
-
 pub returns-then-not-takes : goal.returns-then-not-takes
 returns-then-not-takes c = look_skips c.args.ilabels.now c.args.weights.now c.args.tid2pdf.now c.args.loglikes.now c.args.offset c.args.adaptive c.args.cost c.args.i c.args.next (sym c.takes.ensures ∙ c.if-not-takes.true)
 
@@ -31,7 +23,11 @@ pub loglike-requires : goal.loglike-requires
 loglike-requires c = c.requires.0.heard _ c.requires.1 (sym c.takes.ensures ∙ c.if-not-takes.false)
 
 pub returns-then-not-is_tame : goal.returns-then-not-is_tame
-returns-then-not-is_tame c = look_refuses c.args.ilabels.now c.args.weights.now c.args.tid2pdf.now c.args.loglikes.now c.args.offset c.args.adaptive c.args.cost c.args.i c.args.next (sym c.takes.ensures ∙ c.if-not-takes.false) _ (sums-are c.before.before) (sym c.is_tame.ensures ∙ c.if-not-is_tame.true)
+returns-then-not-is_tame c = let sums_are : get_or c.args.weights.now c.args.i nan ⊕ c.args.offset ⊖ c.loglike.result ⊕ c.args.cost ≡ look_total c.args.ilabels.now c.args.weights.now c.args.tid2pdf.now c.args.loglikes.now c.args.offset c.args.adaptive c.args.cost c.args.i =
+        ap₂ (λ (w l : Float). w ⊕ c.args.offset ⊖ l ⊕ c.args.cost) (get_d_any c.args.weights.now c.args.i nan 0f (let e = c.requires.0.weights in let l = c.requires.1 in omega arith)) c.loglike.ensures in
+    look_refuses c.args.ilabels.now c.args.weights.now c.args.tid2pdf.now c.args.loglikes.now c.args.offset c.args.adaptive c.args.cost c.args.i c.args.next (sym c.takes.ensures ∙ c.if-not-takes.false) _ sums_are (sym c.is_tame.ensures ∙ c.if-not-is_tame.true)
 
 pub returns : goal.returns
-returns c = look_lowers c.args.ilabels.now c.args.weights.now c.args.tid2pdf.now c.args.loglikes.now c.args.offset c.args.adaptive c.args.cost c.args.i c.args.next (sym c.takes.ensures ∙ c.if-not-takes.false) _ (sums-are c.before.before.before) (sym c.is_tame.ensures ∙ c.if-not-is_tame.false) _ c.lower.ensures
+returns c = let sums_are : get_or c.args.weights.now c.args.i nan ⊕ c.args.offset ⊖ c.loglike.result ⊕ c.args.cost ≡ look_total c.args.ilabels.now c.args.weights.now c.args.tid2pdf.now c.args.loglikes.now c.args.offset c.args.adaptive c.args.cost c.args.i =
+        ap₂ (λ (w l : Float). w ⊕ c.args.offset ⊖ l ⊕ c.args.cost) (get_d_any c.args.weights.now c.args.i nan 0f (let e = c.requires.0.weights in let l = c.requires.1 in omega arith)) c.loglike.ensures in
+    look_lowers c.args.ilabels.now c.args.weights.now c.args.tid2pdf.now c.args.loglikes.now c.args.offset c.args.adaptive c.args.cost c.args.i c.args.next (sym c.takes.ensures ∙ c.if-not-takes.false) _ sums_are (sym c.is_tame.ensures ∙ c.if-not-is_tame.false) _ c.lower.ensures

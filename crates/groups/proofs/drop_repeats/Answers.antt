@@ -13,23 +13,11 @@ overflow_sub-j c = c.loop-j-test.true
 pub repeats-again-requires : goal.repeats-again-requires
 repeats-again-requires c = (repeats_asks c.requires.0 c.loop-j.invariant c.loop-j-test.true, c.requires.1)
 
-pub offset_bounds-places-j : goal.offset_bounds-places-j
-offset_bounds-places-j c = record { fits = let g = c.well-formed.1.1.1.1.1.1.1.1.1.1.0.0 in let z = c.requires.0.places-long in let l = c.loop-j.invariant.low in omega arith }
-
-pub bounds-places-j : goal.bounds-places-j
-bounds-places-j c = let z = c.requires.0.places-long in let l = c.loop-j.invariant.low in omega arith
-
 pub drop_at-requires : goal.drop_at-requires
 drop_at-requires c = let z = c.requires.0.inside (c.loop-j.j - 1) (let l = c.loop-j.invariant.low in omega arith) in let k = c.loop-j.invariant.same_length in omega arith
 
-pub loop-j-smaller : goal.loop-j-smaller
-loop-j-smaller c = omega arith
-
 pub loop-j-preserved : goal.loop-j-preserved
 loop-j-preserved c = dropped_next c.requires.0 c.loop-j.invariant c.loop-j-test.true _ c.repeats-again.ensures _ c.drop_at.ensures
-
-pub shape_of-order : goal.shape_of-order
-shape_of-order c = c.loop-j.invariant.same_length
 
 pub returns : goal.returns
 returns c = record { each = λ k l. c.loop-j.invariant.judged k (let z = c.loop-j-test.false in omega arith) l }

@@ -8,47 +8,20 @@ use Rattle.groups.proofs.fill_keys.Goals as goal
 pub loop-i-init : goal.loop-i-init
 loop-i-init c = (omega arith, filled_none)
 
-pub offset_bounds-order-i : goal.offset_bounds-order-i
-offset_bounds-order-i c = record { fits = let g = c.well-formed.1.1.1.1.1.1.1.0.0 in let z = c.requires.0.long in omega arith }
-
-pub bounds-order-i : goal.bounds-order-i
-bounds-order-i c = let z = c.requires.0.long in omega arith
-
 pub link_at-link-requires : goal.link_at-link-requires
 link_at-link-requires c = (c.requires.0.side, (c.requires.0.each _ c.loop-i-test.true).inside)
 
 pub key_at-requires : goal.key_at-requires
 key_at-requires c = let z = (c.requires.0.each _ c.loop-i-test.true).low in let k = c.link_at-link.ensures in let r = c.requires.3.room in omega arith
 
-pub offset_bounds-keys-i : goal.offset_bounds-keys-i
-offset_bounds-keys-i c = record { fits = let g = c.well-formed.1.1.1.1.1.1.1.1.1.0.0 in let z = c.requires.1 in let k = c.loop-i.invariant.1.keys_length in omega arith }
-
-pub bounds-keys-i : goal.bounds-keys-i
-bounds-keys-i c = let z = c.requires.1 in let k = c.loop-i.invariant.1.keys_length in omega arith
-
 pub overflow_cast-places : goal.overflow_cast-places
 overflow_cast-places c = let z = c.requires.0.few in omega arith
-
-pub offset_bounds-places-i : goal.offset_bounds-places-i
-offset_bounds-places-i c = record { fits = let g = c.well-formed.1.1.1.1.1.1.1.1.1.1.0.0 in let z = c.requires.2 in let k = c.loop-i.invariant.1.places-length in omega arith }
-
-pub bounds-places-i : goal.bounds-places-i
-bounds-places-i c = let z = c.requires.2 in let k = c.loop-i.invariant.1.places-length in omega arith
 
 pub overflow_step-i : goal.overflow_step-i
 overflow_step-i c = record { fits = next_fits _ _ _ c.loop-i-test.true c.ranges.n.fits }
 
-pub loop-i-smaller : goal.loop-i-smaller
-loop-i-smaller c = omega arith
-
 pub loop-i-preserved : goal.loop-i-preserved
 loop-i-preserved c = (omega arith, filled_next c.loop-i.invariant.1 (let z = c.requires.1 in omega arith) (let z = c.requires.2 in omega arith) _ (key_read c.requires.3 (c.requires.0.each _ c.loop-i-test.true).low c.link_at-link.ensures c.key_at.ensures))
-
-pub shape_of-keys : goal.shape_of-keys
-shape_of-keys c = c.loop-i.invariant.1.keys_length
-
-pub shape_of-places : goal.shape_of-places
-shape_of-places c = c.loop-i.invariant.1.places-length
 
 pub returns : goal.returns
 returns c = let F = c.loop-i.invariant.1 in record { keys = λ k l. F.keys k (omega arith); places = λ k l. F.places k (omega arith) }

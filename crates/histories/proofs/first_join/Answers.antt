@@ -14,12 +14,12 @@ returns-then-is_join c =
 
 pub loop-r-smaller : goal.loop-r-smaller
 loop-r-smaller c =
-    omega (arith, c.requires.0.prev-low (c.loop-r.r - 1) (omega arith))
+    omega (arith, c.requires.0.prev_low (c.loop-r.r - 1) (omega arith))
 
 pub loop-r-preserved : goal.loop-r-preserved
 loop-r-preserved c =
     let j = sym c.is_join.ensures ∙ c.if-is_join.false in (
-      omega (arith, c.requires.0.prev-low (c.loop-r.r - 1) (omega arith), c.prev_of-r.ensures),
+      omega (arith, c.requires.0.prev_low (c.loop-r.r - 1) (omega arith), c.prev_of-r.ensures),
       λ gs h ok. c.loop-r.invariant.1 gs h ok ∙ link_at_lem ok (c.loop-r.r - 1) (omega arith) (omega arith) j ∙ simp (← c.prev_of-r.ensures),
     )
 

@@ -11,19 +11,19 @@ loop-r-init c = hashing_none c.next_word-r.ensures
 pub next_word-r-requires-in-loop-r : goal.next_word-r-requires-in-loop-r
 next_word-r-requires-in-loop-r c =
     let i = c.loop-r.invariant.low in
-    (c.requires.0, omega (arith, c.requires.0.prev-low (c.loop-r.r - 1) (omega (arith, i)), i, c.prev_of.ensures), c.requires.2)
+    (c.requires.0, omega (arith, c.requires.0.prev_low (c.loop-r.r - 1) (omega (arith, i)), i, c.prev_of.ensures), c.requires.2)
 
 pub loop-r-smaller : goal.loop-r-smaller
 loop-r-smaller c =
-    omega (arith, c.requires.0.prev-low (c.loop-r.r - 1) (omega arith))
+    omega (arith, c.requires.0.prev_low (c.loop-r.r - 1) (omega arith))
 
 pub loop-r-preserved : goal.loop-r-preserved
 loop-r-preserved c =
     let w = c.word_of in
     let p = c.prev_of in
     hashing_more c.loop-r.invariant c.loop-r-test.true w.ensures
-    (c.hash_older-h.ensures ∙ ap (older c.loop-r.h) (back w.result w.type-inv)) p.ensures
-    (omega (arith, c.requires.0.prev-low (c.loop-r.r - 1) (omega (arith, c.loop-r.invariant.low)), p.ensures)) c.next_word-r-in-loop-r.ensures
+    (c.hash_older-h.ensures ∙ ap (older c.loop-r.h) (back w.result w.type_inv)) p.ensures
+    (omega (arith, c.requires.0.prev_low (c.loop-r.r - 1) (omega (arith, c.loop-r.invariant.low)), p.ensures)) c.next_word-r-in-loop-r.ensures
 
 pub returns : goal.returns
 returns c = hashing_end c.loop-r.invariant c.loop-r-test.false

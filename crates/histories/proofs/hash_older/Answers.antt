@@ -8,5 +8,5 @@ use Rattle.histories.proofs.hash_older.Goals as goal
 pub returns : goal.returns
 returns c =
     let w = c.args.word in
-    older_is c.args.h w (u.Unsigned-of.ensures ∙ ap unsigned (back w c.ranges.word.sfits)) c.wrapping_mul.ensures c.wrapping_add_u64.ensures.value
+    older_is c.args.h w (c.unsigned_of.ensures ∙ ap unsigned (back w c.ranges.word.sfits)) c.wrapping_mul.ensures c.wrapping_add_u64.ensures.value
     c.wrapping_mul-2.ensures

@@ -10,4 +10,4 @@ pub returns : goal.returns
 returns c =
     let w = c.word_of in
     let s = c.starts_of in
-    simp (← w.ensures, ← s.ensures, nonzero_no w.result (record { sfits = w.type-inv }) c.if-word_of-ne0.false) (zero_pos s.result)
+    simp (← w.ensures, ← s.ensures, nonzero_no w.result (record { sfits = w.type_inv }) c.if-word_of-ne0.false) (zero_pos s.result)

@@ -9,4 +9,4 @@ pub returns-then-word-eq0 : goal.returns-then-word-eq0
 returns-then-word-eq0 c = newer_none c.args.h c.args.word c.ranges.word c.if-word-eq0.true
 
 pub returns : goal.returns
-returns c = newer_is c.args.h c.args.word c.if-word-eq0.false (c.Unsigned-of.ensures ∙ ap unsigned (back c.args.word c.ranges.word.sfits)) c.wrapping_mul.ensures c.wrapping_add_u64.ensures.value c.wrapping_mul-2.ensures
+returns c = newer_is c.args.h c.args.word c.if-word-eq0.false (c.unsigned_of.ensures ∙ ap unsigned (back c.args.word c.ranges.word.sfits)) c.wrapping_mul.ensures c.wrapping_add_u64.ensures.value c.wrapping_mul-2.ensures

@@ -13,7 +13,7 @@ unfolding rec_at
 returns-then-starts_of-ne0 c =
     let w = c.word_of in
     let s = c.starts_of in
-    simp (← w.ensures, ← s.ensures, nonzero_no w.result (record { sfits = w.type-inv }) c.if-word_of-ne0.false, nonzero_yes (pos s.result) c.if-starts_of-ne0.true)
+    simp (← w.ensures, ← s.ensures, nonzero_no w.result (record { sfits = w.type_inv }) c.if-word_of-ne0.false, nonzero_yes (pos s.result) c.if-starts_of-ne0.true)
 
 pub returns : goal.returns
 unfolding rec_at
@@ -21,4 +21,4 @@ returns c =
     let w = c.word_of in
     let e = c.if-word_of-ne0.false in
     let z = c.if-starts_of-ne0.false in
-    simp (← w.ensures, ← c.starts_of.ensures, ← c.cost_of.ensures, nonzero_no w.result (record { sfits = w.type-inv }) e, z)
+    simp (← w.ensures, ← c.starts_of.ensures, ← c.cost_of.ensures, nonzero_no w.result (record { sfits = w.type_inv }) e, z)

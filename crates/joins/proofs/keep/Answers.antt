@@ -23,13 +23,13 @@ answered over f e k = record { is = λ h ok. sym e ∙ k.is h ok ∙ rw (back ov
 
 pub returns-then-not-is_kept : goal.returns-then-not-is_kept
 returns-then-not-is_kept c =
-    drops_loser (answered c.args.over c.ranges.over.sfits (c.if-not-is_kept.true) c.is_kept.ensures) refl
+    drops_loser (answered c.args.over c.ranges.over.sfits c.if-not-is_kept.true c.is_kept.ensures) refl
 
 pub returns-then-used-cap : goal.returns-then-used-cap
 returns-then-used-cap c =
-    finds_full (answered c.args.over c.ranges.over.sfits (c.if-not-is_kept.false) c.is_kept.ensures) c.if-used-cap.true refl
+    finds_full (answered c.args.over c.ranges.over.sfits c.if-not-is_kept.false c.is_kept.ensures) c.if-used-cap.true refl
 
 pub returns : goal.returns
 returns c =
-    joins_loser (answered c.args.over c.ranges.over.sfits (not-false c.is_kept.result c.if-not-is_kept.false) c.is_kept.ensures) (omega (arith, c.if-used-cap.false, c.requires.fits))
+    joins_loser (answered c.args.over c.ranges.over.sfits c.if-not-is_kept.false c.is_kept.ensures) (omega (arith, c.if-used-cap.false, c.requires.fits))
     (rw (back c.args.over c.ranges.over.sfits) at c.put_join.ensures)

@@ -14,11 +14,11 @@ loop-a-init c = c.apart.invariant
 
 pub loop-a-smaller : goal.loop-a-smaller
 loop-a-smaller c =
-    omega (arith, c.requires.0.prev-low (c.loop-a.a - 1) (omega arith))
+    omega (arith, c.requires.0.prev_low (c.loop-a.a - 1) (omega arith))
 
 pub loop-a-preserved : goal.loop-a-preserved
 loop-a-preserved c =
-    walked_won (c.loop-a.a - 1) c.requires.0.prev-low c.prev_of-a.ensures (omega arith) (omega arith) c.loop-a.invariant
+    walked_won (c.loop-a.a - 1) c.requires.0.prev_low c.prev_of-a.ensures (omega arith) (omega arith) c.loop-a.invariant
 
 pub returns-then-join_within : goal.returns-then-join_within
 returns-then-join_within c =
@@ -26,11 +26,11 @@ returns-then-join_within c =
 
 pub apart-smaller : goal.apart-smaller
 apart-smaller c =
-    omega (arith, c.requires.0.prev-low (c.apart.b - 1) (omega arith))
+    omega (arith, c.requires.0.prev_low (c.apart.b - 1) (omega arith))
 
 pub apart-preserved : goal.apart-preserved
 apart-preserved c =
-    walked_lost (c.apart.b - 1) c.requires.0.prev-low c.prev_of-b.ensures (omega arith) (omega arith)
+    walked_lost (c.apart.b - 1) c.requires.0.prev_low c.prev_of-b.ensures (omega arith) (omega arith)
     (sym c.join_within.ensures ∙ c.if-join_within.false) c.loop-a.invariant
 
 pub returns : goal.returns

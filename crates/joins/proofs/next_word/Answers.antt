@@ -22,15 +22,15 @@ returns-then-word_of-ne0 c =
 
 pub loop-q-smaller : goal.loop-q-smaller
 loop-q-smaller c =
-    omega (arith, c.requires.0.prev-low (c.loop-q.q - 1) (omega arith))
+    omega (arith, c.requires.0.prev_low (c.loop-q.q - 1) (omega arith))
 
 pub loop-q-preserved : goal.loop-q-preserved
 loop-q-preserved c =
     let w = c.word_of in
-    let d = c.requires.0.prev-low (c.loop-q.q - 1) (omega arith) in (
+    let d = c.requires.0.prev_low (c.loop-q.q - 1) (omega arith) in (
       omega (arith, c.prev_of-q.ensures),
       λ gs h ok. c.loop-q.invariant.1 gs h ok ∙ words_at ok (c.loop-q.q - 1) c.args.met (omega arith) (omega arith) (omega arith)
-          ∙ simp (← w.ensures, ← c.prev_of-q.ensures, nonzero_no w.result (record { sfits = w.type-inv }) c.if-word_of-ne0.false),
+          ∙ simp (← w.ensures, ← c.prev_of-q.ensures, nonzero_no w.result (record { sfits = w.type_inv }) c.if-word_of-ne0.false),
     )
 
 pub returns : goal.returns

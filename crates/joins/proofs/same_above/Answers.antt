@@ -40,7 +40,7 @@ pub loop-a-smaller : goal.loop-a-smaller
 loop-a-smaller c =
     let p = c.next_word-a in
     let i = c.if-a-met.false in
-    omega (arith, c.requires.0.prev-low (p.result - 1) (omega (arith, p.ensures.low)), c.prev_of-a.ensures, p.ensures.low, i)
+    omega (arith, c.requires.0.prev_low (p.result - 1) (omega (arith, p.ensures.low)), c.prev_of-a.ensures, p.ensures.low, i)
 
 pub loop-a-preserved : goal.loop-a-preserved
 loop-a-preserved c =
@@ -48,10 +48,10 @@ loop-a-preserved c =
     let q = c.next_word-b in
     let x = c.word_of in
     let y = c.word_of-in-loop-a in (
-      omega (arith, c.requires.0.prev-low (p.result - 1) (omega (arith, p.ensures.low)), c.prev_of-a.ensures, p.ensures.low),
-      omega (arith, c.requires.0.prev-low (q.result - 1) (omega (arith, q.ensures.low)), c.prev_of-b.ensures, q.ensures.low),
+      omega (arith, c.requires.0.prev_low (p.result - 1) (omega (arith, p.ensures.low)), c.prev_of-a.ensures, p.ensures.low),
+      omega (arith, c.requires.0.prev_low (q.result - 1) (omega (arith, q.ensures.low)), c.prev_of-b.ensures, q.ensures.low),
       λ gs h ok. c.loop-a.invariant.2 gs h ok ∙ same_next
           (next_is p.ensures gs h ok c.if-a-met.false x.ensures c.prev_of-a.ensures)
           (next_is q.ensures gs h ok c.if-b-met.false y.ensures c.prev_of-b.ensures)
-          (bits_eq x.result y.result (record { sfits = x.type-inv }) (record { sfits = y.type-inv }) c.if-word_of.false),
+          (bits_eq x.result y.result (record { sfits = x.type_inv }) (record { sfits = y.type_inv }) c.if-word_of.false),
     )

@@ -32,7 +32,7 @@ returns-then-word_of-over c =
 pub same_above-requires-2 : goal.same_above-requires-2
 same_above-requires-2 c =
     let p = c.next_word-a in
-    (c.requires.0, omega (arith, c.requires.0.prev-low (p.result - 1) (omega (arith, p.ensures.low)), c.prev_of.ensures, p.ensures.low), c.requires.2, c.requires.3)
+    (c.requires.0, omega (arith, c.requires.0.prev_low (p.result - 1) (omega (arith, p.ensures.low)), c.prev_of.ensures, p.ensures.low), c.requires.2, c.requires.3)
 
 pub returns : goal.returns
 returns c =
@@ -40,5 +40,5 @@ returns c =
       is = λ gs h ok. c.same_above-2.ensures.is gs h ok ∙ sym (same_next
           (next_is c.next_word-a.ensures gs h ok c.if-a-met.false c.word_of.ensures c.prev_of.ensures)
           (over_front c.args.over _ (nonzero_yes c.args.over c.if-over-eq0.false))
-          (bits_eq c.word_of.result c.args.over (record { sfits = c.word_of.type-inv }) c.ranges.over c.if-word_of-over.false));
+          (bits_eq c.word_of.result c.args.over (record { sfits = c.word_of.type_inv }) c.ranges.over c.if-word_of-over.false));
     }

@@ -13,9 +13,9 @@ same_words-requires c =
 pub returns-in-At : goal.returns-in-At
 returns-in-At c =
     let m = rw c.in-At.is at c.meet.ensures in
-    record { is = λ h ok. ap not (c.same_words.ensures.is c.args.gaps.now h ok) ∙ rw (back c.args.over c.ranges.over.sfits) (sym (m.worth-is h c.args.over ok)) }
+    record { is = λ h ok. ap not (c.same_words.ensures.is c.args.gaps.now h ok) ∙ rw (back c.args.over c.ranges.over.sfits) (sym (m.worth_is h c.args.over ok)) }
 
 pub returns-in-Fits : goal.returns-in-Fits
 returns-in-Fits c =
     let m = rw c.in-Fits.is at c.meet.ensures in
-    record { is = λ h ok. sym (m.worth-is h c.args.over ok) }
+    record { is = λ h ok. sym (m.worth_is h c.args.over ok) }

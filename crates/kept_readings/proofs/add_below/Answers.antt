@@ -12,15 +12,6 @@ overflow_add-first c = record { fits = let z = c.requires.0.fits in let t = c.lo
 pub add_entry-m-requires : goal.add_entry-m-requires
 add_entry-m-requires c = let t = c.loop-i-test.true in let r = c.requires.0.room in (record { hashes = let z = r.hashes in omega arith; nexts = let z = r.nexts in omega arith; sums = let z = r.sums in omega arith }, c.requires.0.lens _ t, room_still c.loop-i.invariant.sized c.requires.1, c.loop-i.invariant.fits)
 
-pub shape_of-kept_hashes-then-places-m : goal.shape_of-kept_hashes-then-places-m
-shape_of-kept_hashes-then-places-m c = c.add_entry-m.auto.1.1.1.1.1.1.1.1.0 ∙ c.loop-i.invariant.sized.hashes
-
-pub shape_of-kept_links-then-places-m : goal.shape_of-kept_links-then-places-m
-shape_of-kept_links-then-places-m c = c.add_entry-m.auto.1.1.1.1.1.1.1.1.1.0 ∙ c.loop-i.invariant.sized.links
-
-pub shape_of-kept_sums-then-places-m : goal.shape_of-kept_sums-then-places-m
-shape_of-kept_sums-then-places-m c = c.add_entry-m.auto.1.1.1.1.1.1.1.1.1.1.0 ∙ c.loop-i.invariant.sized.sums
-
 pub returns-then-places-m : goal.returns-then-places-m
 returns-then-places-m c = below_short _ _ _ _ _ _ _ _ _ _ _ _ _ _ c.loop-i.invariant c.loop-i-test.true c.add_entry-m.ensures c.if-places-m.true
 
@@ -31,16 +22,7 @@ pub loop-i-smaller : goal.loop-i-smaller
 loop-i-smaller c = let t = c.loop-i-test.true in omega arith
 
 pub loop-i-preserved : goal.loop-i-preserved
-loop-i-preserved c = below_next _ _ _ _ _ _ _ _ _ _ _ _ _ _ c.loop-i.invariant c.loop-i-test.true c.add_entry-m.ensures (record { hashes = c.add_entry-m.auto.1.1.1.1.1.1.1.1.0; links = c.add_entry-m.auto.1.1.1.1.1.1.1.1.1.0; sums = c.add_entry-m.auto.1.1.1.1.1.1.1.1.1.1.0 }) c.if-places-m.false
-
-pub shape_of-kept_hashes : goal.shape_of-kept_hashes
-shape_of-kept_hashes c = c.loop-i.invariant.sized.hashes
-
-pub shape_of-kept_links : goal.shape_of-kept_links
-shape_of-kept_links c = c.loop-i.invariant.sized.links
-
-pub shape_of-kept_sums : goal.shape_of-kept_sums
-shape_of-kept_sums c = c.loop-i.invariant.sized.sums
+loop-i-preserved c = below_next _ _ _ _ _ _ _ _ _ _ _ _ _ _ c.loop-i.invariant c.loop-i-test.true c.add_entry-m.ensures (record { hashes = c.add_entry-m.auto.kept_hashes; links = c.add_entry-m.auto.kept_links; sums = c.add_entry-m.auto.kept_sums }) c.if-places-m.false
 
 pub returns : goal.returns
 returns c = below_all _ _ _ _ _ _ _ _ _ _ _ _ _ _ c.loop-i.invariant c.loop-i-test.false

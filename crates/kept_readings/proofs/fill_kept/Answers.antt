@@ -7,23 +7,11 @@ use Rattle.kept_readings.proofs.fill_kept.Goals as goal
 pub loop-i-init : goal.loop-i-init
 loop-i-init c = (omega arith, fill_none _ _ _ _ _ _ _ _ _ _ _ _ _ _ _ _ _ _)
 
-pub offset_bounds-heads-i : goal.offset_bounds-heads-i
-offset_bounds-heads-i c = let k = c.requires.long in let t = c.loop-i-test.true in record { fits = let g = c.well-formed.1.1.1.1.1.1.1.1.1.0.0 in omega arith }
-
 pub bounds-heads-i : goal.bounds-heads-i
 bounds-heads-i c = let k = c.requires.long in let t = c.loop-i-test.true in omega arith
 
 pub add_head-n-requires : goal.add_head-n-requires
-add_head-n-requires c = (c.requires.side, c.requires.chains, c.requires.lists-long, c.requires.each _ c.loop-i-test.true, room_still c.loop-i.invariant.1.sized c.requires.room, c.loop-i.invariant.1.fits)
-
-pub shape_of-kept_hashes-then-places-n : goal.shape_of-kept_hashes-then-places-n
-shape_of-kept_hashes-then-places-n c = c.add_head-n.auto.1.1.1.1.1.1.1.1.1.1.1.1.1.1.0 ∙ c.loop-i.invariant.1.sized.hashes
-
-pub shape_of-kept_links-then-places-n : goal.shape_of-kept_links-then-places-n
-shape_of-kept_links-then-places-n c = c.add_head-n.auto.1.1.1.1.1.1.1.1.1.1.1.1.1.1.1.0 ∙ c.loop-i.invariant.1.sized.links
-
-pub shape_of-kept_sums-then-places-n : goal.shape_of-kept_sums-then-places-n
-shape_of-kept_sums-then-places-n c = c.add_head-n.auto.1.1.1.1.1.1.1.1.1.1.1.1.1.1.1.1.0 ∙ c.loop-i.invariant.1.sized.sums
+add_head-n-requires c = (c.requires.side, c.requires.chains, c.requires.lists_long, c.requires.each _ c.loop-i-test.true, room_still c.loop-i.invariant.1.sized c.requires.room, c.loop-i.invariant.1.fits)
 
 pub returns-then-places-n : goal.returns-then-places-n
 returns-then-places-n c = fill_short _ _ _ _ _ _ _ _ _ _ _ _ _ _ _ _ _ _ c.loop-i.invariant.1 _ c.loop-i-test.true c.requires.long c.add_head-n.ensures c.if-places-n.true
@@ -35,16 +23,7 @@ pub loop-i-smaller : goal.loop-i-smaller
 loop-i-smaller c = let t = c.loop-i-test.true in omega arith
 
 pub loop-i-preserved : goal.loop-i-preserved
-loop-i-preserved c = let t = c.loop-i-test.true in (omega arith, fill_next _ _ _ _ _ _ _ _ _ _ _ _ _ _ _ _ _ _ c.loop-i.invariant.1 _ c.loop-i-test.true c.requires.long c.add_head-n.ensures (record { hashes = c.add_head-n.auto.1.1.1.1.1.1.1.1.1.1.1.1.1.1.0; links = c.add_head-n.auto.1.1.1.1.1.1.1.1.1.1.1.1.1.1.1.0; sums = c.add_head-n.auto.1.1.1.1.1.1.1.1.1.1.1.1.1.1.1.1.0 }) c.if-places-n.false)
-
-pub shape_of-kept_hashes : goal.shape_of-kept_hashes
-shape_of-kept_hashes c = c.loop-i.invariant.1.sized.hashes
-
-pub shape_of-kept_links : goal.shape_of-kept_links
-shape_of-kept_links c = c.loop-i.invariant.1.sized.links
-
-pub shape_of-kept_sums : goal.shape_of-kept_sums
-shape_of-kept_sums c = c.loop-i.invariant.1.sized.sums
+loop-i-preserved c = let t = c.loop-i-test.true in (omega arith, fill_next _ _ _ _ _ _ _ _ _ _ _ _ _ _ _ _ _ _ c.loop-i.invariant.1 _ c.loop-i-test.true c.requires.long c.add_head-n.ensures (record { hashes = c.add_head-n.auto.kept_hashes; links = c.add_head-n.auto.kept_links; sums = c.add_head-n.auto.kept_sums }) c.if-places-n.false)
 
 pub returns : goal.returns
 returns c = fill_all _ _ _ _ _ _ _ _ _ _ _ _ _ _ _ _ _ _ c.loop-i.invariant.1 _ (let z = c.loop-i.invariant.0 in let t = c.loop-i-test.false in omega arith)

@@ -9,9 +9,6 @@ use Rattle.kept_readings.proofs.keep_heads.Goals as goal
 pub loop-i-init : goal.loop-i-init
 loop-i-init c = (omega arith, keep_none _ _ _)
 
-pub offset_bounds-heads-i : goal.offset_bounds-heads-i
-offset_bounds-heads-i c = let z = c.loop-i.invariant.1.same_length in let k = c.requires.long in let t = c.loop-i-test.true in record { fits = let g = c.well-formed.1.1.1.1.1.1.1.1.1.0.0 in omega arith }
-
 pub bounds-heads-i : goal.bounds-heads-i
 bounds-heads-i c = let z = c.loop-i.invariant.1.same_length in let k = c.requires.long in let t = c.loop-i-test.true in omega arith
 
@@ -29,9 +26,6 @@ loop-i-smaller c = let t = c.loop-i-test.true in omega arith
 
 pub loop-i-preserved : goal.loop-i-preserved
 loop-i-preserved c = let t = c.loop-i-test.true in let k = c.requires.long in (omega arith, keep_next c.loop-i.invariant.1 (omega arith) _ refl _ (λ w. c.is_head-kept.ensures.is w.0 w.1 w.2) c.keep_if-m.ensures)
-
-pub shape_of-heads : goal.shape_of-heads
-shape_of-heads c = c.loop-i.invariant.1.same_length
 
 pub returns : goal.returns
 returns c = let C = c.loop-i.invariant.1 in let l = c.loop-i-test.false in let e : c.loop-i.i ≡ c.args.n = let z = c.loop-i.invariant.0 in omega arith in record { few = let f = C.few in omega arith; is = λ gs h ok. C.is (gs, h, ok) ∙ ap (λ (k : ℕ). keep_if (is_head h c.args.tokens.now c.args.sums.now c.args.finals.now c.args.side c.args.counts c.args.bound) (take k c.args.heads.now)) e }

@@ -14,27 +14,6 @@ loop-i-init c = (omega arith, c.requires, lens_self _, record { same_length = re
 pub frame-requires : goal.frame-requires
 frame-requires c = frame_asked c.loop-i.invariant.1
 
-pub shape_of-tokens-in-Refused : goal.shape_of-tokens-in-Refused
-shape_of-tokens-in-Refused c = c.frame.auto.tokens ∙ c.loop-i.invariant.2.tokens
-
-pub shape_of-sums-in-Refused : goal.shape_of-sums-in-Refused
-shape_of-sums-in-Refused c = c.frame.auto.sums ∙ c.loop-i.invariant.2.sums
-
-pub shape_of-records-in-Refused : goal.shape_of-records-in-Refused
-shape_of-records-in-Refused c = c.frame.auto.records ∙ c.loop-i.invariant.2.records
-
-pub shape_of-labels-in-Refused : goal.shape_of-labels-in-Refused
-shape_of-labels-in-Refused c = c.frame.auto.labels ∙ c.loop-i.invariant.2.labels
-
-pub shape_of-gaps-in-Refused : goal.shape_of-gaps-in-Refused
-shape_of-gaps-in-Refused c = c.frame.auto.gaps ∙ c.loop-i.invariant.2.gaps
-
-pub shape_of-queue-in-Refused : goal.shape_of-queue-in-Refused
-shape_of-queue-in-Refused c = c.frame.auto.queue ∙ c.loop-i.invariant.3.same_length
-
-pub shape_of-scratch-in-Refused : goal.shape_of-scratch-in-Refused
-shape_of-scratch-in-Refused c = c.frame.auto.scratch ∙ c.loop-i.invariant.4.same_length
-
 pub overflow_step-i : goal.overflow_step-i
 overflow_step-i c = record { fits = omega (arith, c.loop-i-test.true) }
 
@@ -49,24 +28,3 @@ loop-i-preserved c =
 
 pub write_best-requires : goal.write_best-requires
 write_best-requires c = (held_asked c.loop-i.invariant.1.held).best
-
-pub shape_of-tokens : goal.shape_of-tokens
-shape_of-tokens c = c.loop-i.invariant.2.tokens
-
-pub shape_of-sums : goal.shape_of-sums
-shape_of-sums c = c.loop-i.invariant.2.sums
-
-pub shape_of-records : goal.shape_of-records
-shape_of-records c = c.loop-i.invariant.2.records
-
-pub shape_of-labels : goal.shape_of-labels
-shape_of-labels c = c.loop-i.invariant.2.labels
-
-pub shape_of-gaps : goal.shape_of-gaps
-shape_of-gaps c = c.loop-i.invariant.2.gaps
-
-pub shape_of-queue : goal.shape_of-queue
-shape_of-queue c = c.loop-i.invariant.3.same_length
-
-pub shape_of-scratch : goal.shape_of-scratch
-shape_of-scratch c = c.loop-i.invariant.4.same_length

@@ -13,8 +13,5 @@ loop-i-init c = (omega arith, refl, copied_none _ _)
 pub loop-i-preserved : goal.loop-i-preserved
 loop-i-preserved c = let t = c.loop-i-test.true in let e = c.loop-i.invariant.1 in (omega arith, simp length-set e, copied_more c.loop-i.invariant.2 (omega arith) (omega arith))
 
-pub shape_of-to : goal.shape_of-to
-shape_of-to c = c.loop-i.invariant.1
-
 pub returns : goal.returns
 returns c = let t = c.loop-i-test.false in let z = c.loop-i.invariant.0 in subst (λ (k : ℕ). Copied c.args.from.now c.loop-i.to k) (omega arith) c.loop-i.invariant.2

@@ -10,7 +10,7 @@ use Rattle.listing.specs.Answer.{bound_asks, stores_kept, with_asks, is_full_lem
 use Rattle.listing.proofs.list_readings.Goals as goal
 
 pub list_own-r-requires : goal.list_own-r-requires
-list_own-r-requires c = let p = c.requires in (record { gs = _; keeps = _; margin = _; stores = p.0.stores; keys-long = p.0.wide.keys; places-long = p.0.wide.places; own-long = p.0.wide.own; heads-long = p.0.wide.heads }, p.2)
+list_own-r-requires c = let p = c.requires in (record { gs = _; keeps = _; margin = _; stores = p.0.stores; keys_long = p.0.wide.keys; places_long = p.0.wide.places; own_long = p.0.wide.own; heads_long = p.0.wide.heads }, p.2)
 
 pub is_listing-requires : goal.is_listing-requires
 is_listing-requires c = tt
@@ -18,23 +18,8 @@ is_listing-requires c = tt
 pub copy-requires : goal.copy-requires
 copy-requires c = let o = c.list_own-r in (o.ensures.room, let x = o.ensures.firsts.few in let y = o.ensures.ranked.few in let z = c.requires.0.wide.list in omega arith)
 
-pub shape_of-keys-then-not-is_listing : goal.shape_of-keys-then-not-is_listing
-shape_of-keys-then-not-is_listing c = c.list_own-r.auto.1.1.1.1.1.1.1.1.1.1.1.0
-
-pub shape_of-places-then-not-is_listing : goal.shape_of-places-then-not-is_listing
-shape_of-places-then-not-is_listing c = c.list_own-r.auto.1.1.1.1.1.1.1.1.1.1.1.1.0
-
-pub shape_of-own-then-not-is_listing : goal.shape_of-own-then-not-is_listing
-shape_of-own-then-not-is_listing c = c.list_own-r.auto.1.1.1.1.1.1.1.1.1.1.1.1.1.0
-
-pub shape_of-heads-then-not-is_listing : goal.shape_of-heads-then-not-is_listing
-shape_of-heads-then-not-is_listing c = c.list_own-r.auto.1.1.1.1.1.1.1.1.1.1.1.1.1.1.0
-
-pub shape_of-list-then-not-is_listing : goal.shape_of-list-then-not-is_listing
-shape_of-list-then-not-is_listing c = c.copy.auto.1.0
-
 pub returns-then-not-is_listing : goal.returns-then-not-is_listing
-returns-then-not-is_listing c = let p = c.requires in own_alone p.0.stores.few c.list_own-r.ensures c.copy.ensures (let z = p.0.wide.list in let q = c.copy.auto.1.0 in omega arith) _ _ _ _ (sym c.is_listing.ensures ∙ c.if-not-is_listing.true) _ _ _ _ _ _ _ _
+returns-then-not-is_listing c = let p = c.requires in own_alone p.0.stores.few c.list_own-r.ensures c.copy.ensures (let z = p.0.wide.list in let q = c.copy.auto.to in omega arith) _ _ _ _ (sym c.is_listing.ensures ∙ c.if-not-is_listing.true) _ _ _ _ _ _ _ _
 
 pub bound_of-bound-requires : goal.bound_of-bound-requires
 bound_of-bound-requires c = bound_asks c.requires.0.stores c.args.listed (sym c.is_listing.ensures ∙ c.if-not-is_listing.false) c.list_own-r.ensures
@@ -43,88 +28,13 @@ pub kept_places-most-requires : goal.kept_places-most-requires
 kept_places-most-requires c = tt
 
 pub find_kept-requires : goal.find_kept-requires
-find_kept-requires c = let a = c.args in let p = c.requires in let o = c.list_own-r in (record { stores = stores_kept p.0.stores a.listed (sym c.is_listing.ensures ∙ c.if-not-is_listing.false); few = p.1; ranked = o.ensures.ranked; heads-long = (let z = p.0.wide.heads in let q = o.auto.1.1.1.1.1.1.1.1.1.1.1.1.1.1.0 in omega arith); keys-long = (let z = p.0.wide.keys in let q = o.auto.1.1.1.1.1.1.1.1.1.1.1.0 in omega arith); places-long = (let z = p.0.wide.places in let q = o.auto.1.1.1.1.1.1.1.1.1.1.1.1.0 in omega arith); lists-long = p.0.wide.lists; room = kept_room (length a.kept-hashes.now) (length a.kept-links.now) (length a.kept-sums.now) c.kept_places-most.ensures refl refl refl }, p.2)
+find_kept-requires c = let a = c.args in let p = c.requires in let o = c.list_own-r in (record { stores = stores_kept p.0.stores a.listed (sym c.is_listing.ensures ∙ c.if-not-is_listing.false); few = p.1; ranked = o.ensures.ranked; heads_long = (let z = p.0.wide.heads in let q = o.auto.1.1.1.1.1.1.1.1.1.1.1.1.1.1.0 in omega arith); keys_long = (let z = p.0.wide.keys in let q = o.auto.1.1.1.1.1.1.1.1.1.1.1.0 in omega arith); places_long = (let z = p.0.wide.places in let q = o.auto.1.1.1.1.1.1.1.1.1.1.1.1.0 in omega arith); lists_long = p.0.wide.lists; room = kept_room (length a.kept_hashes.now) (length a.kept_links.now) (length a.kept_sums.now) c.kept_places-most.ensures refl refl refl }, p.2)
 
 pub list_with-requires : goal.list_with-requires
-list_with-requires c = let a = c.args in let p = c.requires in let o = c.list_own-r in let f = c.find_kept in let l = (sym c.is_listing.ensures ∙ c.if-not-is_listing.false) in let e = c.kept_places-most.ensures in let q = f.auto.1.1.1.1.1.1.1.1.1.1.1.1.1.1.1.1.1.0 ∙ o.auto.1.1.1.1.1.1.1.1.1.1.1.0 in (with_asks o.ensures c.bound_of-bound.ensures f.ensures c.in-Found.is p.0.stores l p.1 (entry_room (length a.hashes.now) (length a.nexts.now) (length a.costs.now) refl f.auto.1.1.1.1.1.1.1.1.1.1.1.1.1.1.1.1.1.1.1.1.0 f.auto.1.1.1.1.1.1.1.1.1.1.1.1.1.1.1.1.1.1.1.1.1.0 f.auto.1.1.1.1.1.1.1.1.1.1.1.1.1.1.1.1.1.1.1.1.1.1.0) (kept_few (length a.kept-hashes.now) (length a.kept-links.now) (length a.kept-sums.now) e) (kept_room (length a.kept-hashes.now) (length a.kept-links.now) (length a.kept-sums.now) e f.auto.1.1.1.1.1.1.1.1.1.1.1.1.1.1.1.1.1.1.1.1.1.1.1.0 f.auto.1.1.1.1.1.1.1.1.1.1.1.1.1.1.1.1.1.1.1.1.1.1.1.1.0 f.auto.1.1.1.1.1.1.1.1.1.1.1.1.1.1.1.1.1.1.1.1.1.1.1.1.1.0) (let z = p.0.wide.keys in omega arith, let z = p.0.wide.keys_kept in omega arith) (let z = p.0.wide.places in let q = f.auto.1.1.1.1.1.1.1.1.1.1.1.1.1.1.1.1.1.1.0 ∙ o.auto.1.1.1.1.1.1.1.1.1.1.1.1.0 in omega arith) (let z = p.0.wide.heads in let q = f.auto.1.1.1.1.1.1.1.1.1.1.1.1.1.1.1.0 ∙ o.auto.1.1.1.1.1.1.1.1.1.1.1.1.1.1.0 in omega arith) (let z = p.0.wide.order in omega arith) p.0.wide.route (let z = p.0.wide.lists in let q = f.auto.1.1.1.1.1.1.1.1.1.1.1.1.1.1.1.1.1.1.1.0 in omega arith) (let z = p.0.wide.list in omega arith), p.2.keys)
-
-pub shape_of-keys-in-Full : goal.shape_of-keys-in-Full
-shape_of-keys-in-Full c = c.find_kept.auto.1.1.1.1.1.1.1.1.1.1.1.1.1.1.1.1.1.0 ∙ c.list_own-r.auto.1.1.1.1.1.1.1.1.1.1.1.0
-
-pub shape_of-places-in-Full : goal.shape_of-places-in-Full
-shape_of-places-in-Full c = c.find_kept.auto.1.1.1.1.1.1.1.1.1.1.1.1.1.1.1.1.1.1.0 ∙ c.list_own-r.auto.1.1.1.1.1.1.1.1.1.1.1.1.0
-
-pub shape_of-own-in-Full : goal.shape_of-own-in-Full
-shape_of-own-in-Full c = c.list_own-r.auto.1.1.1.1.1.1.1.1.1.1.1.1.1.0
-
-pub shape_of-heads-in-Full : goal.shape_of-heads-in-Full
-shape_of-heads-in-Full c = c.find_kept.auto.1.1.1.1.1.1.1.1.1.1.1.1.1.1.1.0 ∙ c.list_own-r.auto.1.1.1.1.1.1.1.1.1.1.1.1.1.1.0
-
-pub shape_of-lists-in-Full : goal.shape_of-lists-in-Full
-shape_of-lists-in-Full c = c.find_kept.auto.1.1.1.1.1.1.1.1.1.1.1.1.1.1.1.1.1.1.1.0
-
-pub shape_of-hashes-in-Full : goal.shape_of-hashes-in-Full
-shape_of-hashes-in-Full c = c.find_kept.auto.1.1.1.1.1.1.1.1.1.1.1.1.1.1.1.1.1.1.1.1.0
-
-pub shape_of-nexts-in-Full : goal.shape_of-nexts-in-Full
-shape_of-nexts-in-Full c = c.find_kept.auto.1.1.1.1.1.1.1.1.1.1.1.1.1.1.1.1.1.1.1.1.1.0
-
-pub shape_of-costs-in-Full : goal.shape_of-costs-in-Full
-shape_of-costs-in-Full c = c.find_kept.auto.1.1.1.1.1.1.1.1.1.1.1.1.1.1.1.1.1.1.1.1.1.1.0
-
-pub shape_of-kept_hashes-in-Full : goal.shape_of-kept_hashes-in-Full
-shape_of-kept_hashes-in-Full c = c.find_kept.auto.1.1.1.1.1.1.1.1.1.1.1.1.1.1.1.1.1.1.1.1.1.1.1.0
-
-pub shape_of-kept_links-in-Full : goal.shape_of-kept_links-in-Full
-shape_of-kept_links-in-Full c = c.find_kept.auto.1.1.1.1.1.1.1.1.1.1.1.1.1.1.1.1.1.1.1.1.1.1.1.1.0
-
-pub shape_of-kept_sums-in-Full : goal.shape_of-kept_sums-in-Full
-shape_of-kept_sums-in-Full c = c.find_kept.auto.1.1.1.1.1.1.1.1.1.1.1.1.1.1.1.1.1.1.1.1.1.1.1.1.1.0
+list_with-requires c = let a = c.args in let p = c.requires in let o = c.list_own-r in let f = c.find_kept in let l = (sym c.is_listing.ensures ∙ c.if-not-is_listing.false) in let e = c.kept_places-most.ensures in let q = f.auto.1.1.1.1.1.1.1.1.1.1.1.1.1.1.1.1.1.0 ∙ o.auto.1.1.1.1.1.1.1.1.1.1.1.0 in (with_asks o.ensures c.bound_of-bound.ensures f.ensures c.in-Found.is p.0.stores l p.1 (entry_room (length a.hashes.now) (length a.nexts.now) (length a.costs.now) refl f.auto.1.1.1.1.1.1.1.1.1.1.1.1.1.1.1.1.1.1.1.1.0 f.auto.1.1.1.1.1.1.1.1.1.1.1.1.1.1.1.1.1.1.1.1.1.0 f.auto.1.1.1.1.1.1.1.1.1.1.1.1.1.1.1.1.1.1.1.1.1.1.0) (kept_few (length a.kept_hashes.now) (length a.kept_links.now) (length a.kept_sums.now) e) (kept_room (length a.kept_hashes.now) (length a.kept_links.now) (length a.kept_sums.now) e f.auto.1.1.1.1.1.1.1.1.1.1.1.1.1.1.1.1.1.1.1.1.1.1.1.0 f.auto.1.1.1.1.1.1.1.1.1.1.1.1.1.1.1.1.1.1.1.1.1.1.1.1.0 f.auto.1.1.1.1.1.1.1.1.1.1.1.1.1.1.1.1.1.1.1.1.1.1.1.1.1.0) (let z = p.0.wide.keys in omega arith, let z = p.0.wide.keys_kept in omega arith) (let z = p.0.wide.places in let q = f.auto.1.1.1.1.1.1.1.1.1.1.1.1.1.1.1.1.1.1.0 ∙ o.auto.1.1.1.1.1.1.1.1.1.1.1.1.0 in omega arith) (let z = p.0.wide.heads in let q = f.auto.1.1.1.1.1.1.1.1.1.1.1.1.1.1.1.0 ∙ o.auto.1.1.1.1.1.1.1.1.1.1.1.1.1.1.0 in omega arith) (let z = p.0.wide.order in omega arith) p.0.wide.route (let z = p.0.wide.lists in let q = f.auto.1.1.1.1.1.1.1.1.1.1.1.1.1.1.1.1.1.1.1.0 in omega arith) (let z = p.0.wide.list in omega arith), p.2.keys)
 
 pub returns-in-Full : goal.returns-in-Full
 returns-in-Full c = let a = c.args in let o = c.list_own-r in let f = c.find_kept in is_full_lem o.ensures c.bound_of-bound.ensures f.ensures a.keeps c.requires.0.stores (sym c.is_listing.ensures ∙ c.if-not-is_listing.false) c.kept_places-most.ensures c.in-Full.is
 
-pub shape_of-keys-in-Found : goal.shape_of-keys-in-Found
-shape_of-keys-in-Found c = c.list_with.auto.1.1.1.1.1.1.1.1.1.1.1.1.0 ∙ c.find_kept.auto.1.1.1.1.1.1.1.1.1.1.1.1.1.1.1.1.1.0 ∙ c.list_own-r.auto.1.1.1.1.1.1.1.1.1.1.1.0
-
-pub shape_of-places-in-Found : goal.shape_of-places-in-Found
-shape_of-places-in-Found c = c.list_with.auto.1.1.1.1.1.1.1.1.1.1.1.1.1.0 ∙ c.find_kept.auto.1.1.1.1.1.1.1.1.1.1.1.1.1.1.1.1.1.1.0 ∙ c.list_own-r.auto.1.1.1.1.1.1.1.1.1.1.1.1.0
-
-pub shape_of-own-in-Found : goal.shape_of-own-in-Found
-shape_of-own-in-Found c = c.list_with.auto.1.1.1.1.1.1.1.1.1.1.0 ∙ c.list_own-r.auto.1.1.1.1.1.1.1.1.1.1.1.1.1.0
-
-pub shape_of-heads-in-Found : goal.shape_of-heads-in-Found
-shape_of-heads-in-Found c = c.list_with.auto.1.1.1.1.1.1.1.1.1.1.1.1.1.1.0 ∙ c.find_kept.auto.1.1.1.1.1.1.1.1.1.1.1.1.1.1.1.0 ∙ c.list_own-r.auto.1.1.1.1.1.1.1.1.1.1.1.1.1.1.0
-
-pub shape_of-list : goal.shape_of-list
-shape_of-list c = c.list_with.auto.1.1.1.1.1.1.1.1.1.1.1.1.1.1.1.1.1.1.1.1.1.1.1.0
-
-pub shape_of-lists-in-Found : goal.shape_of-lists-in-Found
-shape_of-lists-in-Found c = c.list_with.auto.1.1.1.1.1.1.1.1.1.1.1.1.1.1.1.1.1.1.1.1.1.1.0 ∙ c.find_kept.auto.1.1.1.1.1.1.1.1.1.1.1.1.1.1.1.1.1.1.1.0
-
-pub shape_of-route : goal.shape_of-route
-shape_of-route c = c.list_with.auto.1.1.1.1.1.1.1.1.1.1.1.1.1.1.1.1.1.1.1.1.1.0
-
-pub shape_of-hashes-in-Found : goal.shape_of-hashes-in-Found
-shape_of-hashes-in-Found c = c.find_kept.auto.1.1.1.1.1.1.1.1.1.1.1.1.1.1.1.1.1.1.1.1.0
-
-pub shape_of-nexts-in-Found : goal.shape_of-nexts-in-Found
-shape_of-nexts-in-Found c = c.find_kept.auto.1.1.1.1.1.1.1.1.1.1.1.1.1.1.1.1.1.1.1.1.1.0
-
-pub shape_of-costs-in-Found : goal.shape_of-costs-in-Found
-shape_of-costs-in-Found c = c.find_kept.auto.1.1.1.1.1.1.1.1.1.1.1.1.1.1.1.1.1.1.1.1.1.1.0
-
-pub shape_of-kept_hashes-in-Found : goal.shape_of-kept_hashes-in-Found
-shape_of-kept_hashes-in-Found c = c.find_kept.auto.1.1.1.1.1.1.1.1.1.1.1.1.1.1.1.1.1.1.1.1.1.1.1.0
-
-pub shape_of-kept_links-in-Found : goal.shape_of-kept_links-in-Found
-shape_of-kept_links-in-Found c = c.find_kept.auto.1.1.1.1.1.1.1.1.1.1.1.1.1.1.1.1.1.1.1.1.1.1.1.1.0
-
-pub shape_of-kept_sums-in-Found : goal.shape_of-kept_sums-in-Found
-shape_of-kept_sums-in-Found c = c.find_kept.auto.1.1.1.1.1.1.1.1.1.1.1.1.1.1.1.1.1.1.1.1.1.1.1.1.1.0
-
-pub shape_of-order : goal.shape_of-order
-shape_of-order c = c.list_with.auto.1.1.1.1.1.1.1.1.1.1.1.1.1.1.1.1.1.1.1.0
-
 pub returns-in-Found : goal.returns-in-Found
-returns-in-Found c = let a = c.args in let p = c.requires in let o = c.list_own-r in let f = c.find_kept in let l = (sym c.is_listing.ensures ∙ c.if-not-is_listing.false) in let e = c.kept_places-most.ensures in are_items_lem o.ensures c.bound_of-bound.ensures f.ensures c.in-Found.is a.keeps p.0.stores l (entry_room (length a.hashes.now) (length a.nexts.now) (length a.costs.now) refl f.auto.1.1.1.1.1.1.1.1.1.1.1.1.1.1.1.1.1.1.1.1.0 f.auto.1.1.1.1.1.1.1.1.1.1.1.1.1.1.1.1.1.1.1.1.1.0 f.auto.1.1.1.1.1.1.1.1.1.1.1.1.1.1.1.1.1.1.1.1.1.1.0) (kept_room (length a.kept-hashes.now) (length a.kept-links.now) (length a.kept-sums.now) e f.auto.1.1.1.1.1.1.1.1.1.1.1.1.1.1.1.1.1.1.1.1.1.1.1.0 f.auto.1.1.1.1.1.1.1.1.1.1.1.1.1.1.1.1.1.1.1.1.1.1.1.1.0 f.auto.1.1.1.1.1.1.1.1.1.1.1.1.1.1.1.1.1.1.1.1.1.1.1.1.1.0) e c.list_with.ensures
+returns-in-Found c = let a = c.args in let p = c.requires in let o = c.list_own-r in let f = c.find_kept in let l = (sym c.is_listing.ensures ∙ c.if-not-is_listing.false) in let e = c.kept_places-most.ensures in are_items_lem o.ensures c.bound_of-bound.ensures f.ensures c.in-Found.is a.keeps p.0.stores l (entry_room (length a.hashes.now) (length a.nexts.now) (length a.costs.now) refl f.auto.1.1.1.1.1.1.1.1.1.1.1.1.1.1.1.1.1.1.1.1.0 f.auto.1.1.1.1.1.1.1.1.1.1.1.1.1.1.1.1.1.1.1.1.1.0 f.auto.1.1.1.1.1.1.1.1.1.1.1.1.1.1.1.1.1.1.1.1.1.1.0) (kept_room (length a.kept_hashes.now) (length a.kept_links.now) (length a.kept_sums.now) e f.auto.1.1.1.1.1.1.1.1.1.1.1.1.1.1.1.1.1.1.1.1.1.1.1.0 f.auto.1.1.1.1.1.1.1.1.1.1.1.1.1.1.1.1.1.1.1.1.1.1.1.1.0 f.auto.1.1.1.1.1.1.1.1.1.1.1.1.1.1.1.1.1.1.1.1.1.1.1.1.1.0) e c.list_with.ensures

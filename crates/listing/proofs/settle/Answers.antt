@@ -5,28 +5,22 @@ use Rattle.listing.specs.Settling.{drops_ask, settled}
 use Rattle.listing.proofs.settle.Goals as goal
 
 pub fill_keys-requires : goal.fill_keys-requires
-fill_keys-requires c = (c.requires.0.states, c.requires.0.keys-long, c.requires.0.places-long, c.requires.1)
+fill_keys-requires c = (c.requires.0.states, c.requires.0.keys_long, c.requires.0.places_long, c.requires.1)
 
 pub sort-requires : goal.sort-requires
-sort-requires c = let u = c.requires.0.keys-long in let v = c.requires.0.places-long in let x = c.fill_keys.auto.1.1.1.1.1.1.1.1.1.0 in let y = c.fill_keys.auto.1.1.1.1.1.1.1.1.1.1.0 in record { keys-long = omega arith; items-long = omega arith }
+sort-requires c = let u = c.requires.0.keys_long in let v = c.requires.0.places_long in let x = c.fill_keys.auto.keys in let y = c.fill_keys.auto.places in record { keys_long = omega arith; items_long = omega arith }
 
 pub drop_twins-requires : goal.drop_twins-requires
-drop_twins-requires c = let u = c.requires.0.keys-long in let v = c.requires.0.places-long in let x = c.fill_keys.auto.1.1.1.1.1.1.1.1.1.0 in let y = c.fill_keys.auto.1.1.1.1.1.1.1.1.1.1.0 in let s = c.sort.auto.keys in let t = c.sort.auto.items in drops_ask c.requires.0 c.fill_keys.ensures (omega arith) (omega arith) (record { keys-long = omega arith; items-long = omega arith }) c.sort.ensures
+drop_twins-requires c = let u = c.requires.0.keys_long in let v = c.requires.0.places_long in let x = c.fill_keys.auto.keys in let y = c.fill_keys.auto.places in let s = c.sort.auto.keys in let t = c.sort.auto.items in drops_ask c.requires.0 c.fill_keys.ensures (omega arith) (omega arith) (record { keys_long = omega arith; items_long = omega arith }) c.sort.ensures
 
 pub drop_gone-requires : goal.drop_gone-requires
-drop_gone-requires c = let u = c.requires.0.gone_long in let x = c.drop_twins.auto.1.1.1.1.1.1.1.1.1.1.0 in (c.requires.0.states.long, omega arith)
+drop_gone-requires c = let u = c.requires.0.gone_long in let x = c.drop_twins.auto.gone in (c.requires.0.states.long, omega arith)
 
 pub close_up-own_left-requires : goal.close_up-own_left-requires
 close_up-own_left-requires c = let u = c.requires.0.states.long in let x = c.drop_gone.auto.own in omega arith
 
 pub close_up-kept_left-requires : goal.close_up-kept_left-requires
-close_up-kept_left-requires c = let u = c.requires.0.order-long in let x = c.drop_twins.auto.1.1.1.1.1.1.1.1.1.1.1.1.1.1.1.1.1.0 in omega arith
-
-pub shape_of-keys : goal.shape_of-keys
-shape_of-keys c = c.sort.auto.keys ∙ c.fill_keys.auto.1.1.1.1.1.1.1.1.1.0
-
-pub shape_of-places : goal.shape_of-places
-shape_of-places c = c.sort.auto.items ∙ c.fill_keys.auto.1.1.1.1.1.1.1.1.1.1.0
+close_up-kept_left-requires c = let u = c.requires.0.order_long in let x = c.drop_twins.auto.order in omega arith
 
 pub returns : goal.returns
-returns c = settled c.requires.0 c.drop_twins.ensures c.drop_twins.auto.1.1.1.1.1.1.1.1.1.1.1.1.1.1.1.1.1.0 c.drop_gone.ensures c.drop_gone.auto.own c.close_up-own_left.ensures c.close_up-kept_left.ensures
+returns c = settled c.requires.0 c.drop_twins.ensures c.drop_twins.auto.order c.drop_gone.ensures c.drop_gone.auto.own c.close_up-own_left.ensures c.close_up-kept_left.ensures

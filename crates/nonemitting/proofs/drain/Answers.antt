@@ -8,32 +8,11 @@ use Rattle.nonemitting.proofs.drain.Goals as goal
 pub loop-w-init : goal.loop-w-init
 loop-w-init c = (lens_self _, refl, λ G. far_start G)
 
-pub offset_bounds-queue-count : goal.offset_bounds-queue-count
-offset_bounds-queue-count c = let z = c.well-formed.1.1.1.1.1.0 in let h = z.1 in let k = c.loop-w.invariant.1 in let f = (c.loop-w.invariant.2 c.requires).at.fits in record { fits = omega arith }
-
 pub bounds-queue-count : goal.bounds-queue-count
 bounds-queue-count c = let f = (c.loop-w.invariant.2 c.requires).at.fits in let h = c.loop-w-test.true in omega arith
 
 pub expand-requires : goal.expand-requires
 expand-requires c = state_given c.requires (c.loop-w.invariant.2 c.requires) c.loop-w-test.true c.loop-w.invariant.1 _ refl
-
-pub shape_of-tokens-in-Refused : goal.shape_of-tokens-in-Refused
-shape_of-tokens-in-Refused c = c.expand.auto.tokens ∙ c.loop-w.invariant.0.tokens
-
-pub shape_of-sums-in-Refused : goal.shape_of-sums-in-Refused
-shape_of-sums-in-Refused c = c.expand.auto.sums ∙ c.loop-w.invariant.0.sums
-
-pub shape_of-records-in-Refused : goal.shape_of-records-in-Refused
-shape_of-records-in-Refused c = c.expand.auto.records ∙ c.loop-w.invariant.0.records
-
-pub shape_of-labels-in-Refused : goal.shape_of-labels-in-Refused
-shape_of-labels-in-Refused c = c.expand.auto.labels ∙ c.loop-w.invariant.0.labels
-
-pub shape_of-gaps-in-Refused : goal.shape_of-gaps-in-Refused
-shape_of-gaps-in-Refused c = c.expand.auto.gaps ∙ c.loop-w.invariant.0.gaps
-
-pub shape_of-queue-in-Refused : goal.shape_of-queue-in-Refused
-shape_of-queue-in-Refused c = c.expand.auto.queue ∙ c.loop-w.invariant.1
 
 pub returns-in-Refused : goal.returns-in-Refused
 returns-in-Refused c = λ G. far_stop G (c.loop-w.invariant.2 G) c.loop-w-test.true c.loop-w.invariant.1 _ refl c.expand.ensures _ c.in-Refused.is
@@ -47,24 +26,6 @@ loop-w-preserved c = (
   c.expand.auto.queue ∙ c.loop-w.invariant.1,
   λ G. far_next G (c.loop-w.invariant.2 G) c.loop-w-test.true c.loop-w.invariant.1 _ refl c.expand.ensures _ c.in-On.is,
 )
-
-pub shape_of-tokens : goal.shape_of-tokens
-shape_of-tokens c = c.loop-w.invariant.0.tokens
-
-pub shape_of-sums : goal.shape_of-sums
-shape_of-sums c = c.loop-w.invariant.0.sums
-
-pub shape_of-records : goal.shape_of-records
-shape_of-records c = c.loop-w.invariant.0.records
-
-pub shape_of-labels : goal.shape_of-labels
-shape_of-labels c = c.loop-w.invariant.0.labels
-
-pub shape_of-gaps : goal.shape_of-gaps
-shape_of-gaps c = c.loop-w.invariant.0.gaps
-
-pub shape_of-queue : goal.shape_of-queue
-shape_of-queue c = c.loop-w.invariant.1
 
 pub returns : goal.returns
 returns c = λ G. far_end G (c.loop-w.invariant.2 G) c.loop-w-test.false

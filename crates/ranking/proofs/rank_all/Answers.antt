@@ -29,11 +29,5 @@ loop-s-smaller c = let u = c.loop-s-test.true in let v = c.next_active-s-in-loop
 pub loop-s-preserved : goal.loop-s-preserved
 loop-s-preserved c = listing_on c.loop-s.invariant c.candidate_at.ensures c.loop-s-test.true (record { keys_length = c.put_ranked-n.auto.keys; items-length = c.put_ranked-n.auto.order }) c.put_ranked-n.ensures c.next_active-s-in-loop-s.ensures
 
-pub shape_of-keys : goal.shape_of-keys
-shape_of-keys c = c.loop-s.invariant.kept.keys_length
-
-pub shape_of-order : goal.shape_of-order
-shape_of-order c = c.loop-s.invariant.kept.items-length
-
 pub returns : goal.returns
 returns c = listing_done c.loop-s.invariant c.loop-s-test.false

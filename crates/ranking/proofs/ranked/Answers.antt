@@ -6,4 +6,4 @@ pub rank_all-n-requires : goal.rank_all-n-requires
 rank_all-n-requires c = c.requires
 
 pub returns : goal.returns
-returns c = ranked_is c.requires (λ i. (c.shared_slice_known-1.given i).fits) c.rank_all-n.ensures (record { keys_length = same_length c; items-length = same-length-2 c }) c.sort.ensures
+returns c = ranked_is c.requires (λ i. (c.type_inv.sums i).fits) c.rank_all-n.ensures (record { keys_length = c.rank_all-n.auto.keys; items-length = c.rank_all-n.auto.order }) c.sort.ensures

@@ -31,11 +31,8 @@ pub loop-i-smaller : goal.loop-i-smaller
 loop-i-smaller c = omega arith
 
 pub loop-i-preserved : goal.loop-i-preserved
-loop-i-preserved c = (omega arith, c.measure_reading-z.auto.1.1.1.1.1.1.1.1.1.1.1.0 ∙ c.loop-i.invariant.1, total_more c.requires.0 c.args.max c.loop-i-test.true c.reading_at-g.ensures c.loop-i.invariant.2 c.measure_reading-z.ensures c.grown-total.ensures)
-
-pub shape_of-route : goal.shape_of-route
-shape_of-route c = c.loop-i.invariant.1
+loop-i-preserved c = (omega arith, c.measure_reading-z.auto.route ∙ c.loop-i.invariant.1, total_more c.requires.0 c.args.max c.loop-i-test.true c.reading_at-g.ensures c.loop-i.invariant.2 c.measure_reading-z.ensures c.grown-total.ensures)
 
 pub returns : goal.returns
 returns c = let a = c.args in let e = c.loop-i.invariant.0 in let f = c.loop-i-test.false in
-    subst (λ (j : ℕ). TotalsAre (view a.tokens.now a.sums.now a.finals.now a.records.now a.labels.now a.nexts.now a.kept-hashes.now a.kept-links.now a.kept-sums.now a.side a.used a.n a.counts) a.max a.list.now j c.loop-i.total) (omega arith) c.loop-i.invariant.2
+    subst (λ (j : ℕ). TotalsAre (view a.tokens.now a.sums.now a.finals.now a.records.now a.labels.now a.nexts.now a.kept_hashes.now a.kept_links.now a.kept_sums.now a.side a.used a.n a.counts) a.max a.list.now j c.loop-i.total) (omega arith) c.loop-i.invariant.2

@@ -27,25 +27,7 @@ pub loop-i-smaller : goal.loop-i-smaller
 loop-i-smaller c = omega arith
 
 pub loop-i-preserved : goal.loop-i-preserved
-loop-i-preserved c = (c.write_reading-at.auto.1.1.1.1.1.1.1.1.1.1.1.1.1.1.0 ∙ c.loop-i.invariant.0, going_next c.requires.0 c.loop-i.invariant.1 c.loop-i-test.true c.reading_at-g.ensures c.write_reading-at.ensures)
-
-pub shape_of-route : goal.shape_of-route
-shape_of-route c = c.loop-i.invariant.0
-
-pub shape_of-words : goal.shape_of-words
-shape_of-words c = (going_long c.requires.0 c.loop-i.invariant.1).words
-
-pub shape_of-frames : goal.shape_of-frames
-shape_of-frames c = (going_long c.requires.0 c.loop-i.invariant.1).frames
-
-pub shape_of-segments : goal.shape_of-segments
-shape_of-segments c = (going_long c.requires.0 c.loop-i.invariant.1).segments
-
-pub shape_of-numbers : goal.shape_of-numbers
-shape_of-numbers c = (going_long c.requires.0 c.loop-i.invariant.1).numbers
-
-pub shape_of-costs : goal.shape_of-costs
-shape_of-costs c = (going_long c.requires.0 c.loop-i.invariant.1).costs
+loop-i-preserved c = (c.write_reading-at.auto.route ∙ c.loop-i.invariant.0, going_next c.requires.0 c.loop-i.invariant.1 c.loop-i-test.true c.reading_at-g.ensures c.write_reading-at.ensures)
 
 pub returns : goal.returns
 returns c = going_done c.requires.0 c.loop-i.invariant.1 c.loop-i-test.false

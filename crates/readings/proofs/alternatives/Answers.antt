@@ -18,56 +18,11 @@ list_states-k-requires c = (c.requires.0, c.fill.ensures)
 pub measure_all-total-requires : goal.measure_all-total-requires
 measure_all-total-requires c = fill_asks c.requires.0 c.list_states-k.ensures c.if-max-gt-MAX_LISTED.false
 
-pub shape_of-keys-then-too_short : goal.shape_of-keys-then-too_short
-shape_of-keys-then-too_short c = c.list_states-k.auto.1.1.1.1.1.1.1.1.1.1.1.1.0
-
-pub shape_of-places-then-too_short : goal.shape_of-places-then-too_short
-shape_of-places-then-too_short c = c.list_states-k.auto.1.1.1.1.1.1.1.1.1.1.1.1.1.0
-
-pub shape_of-order-then-too_short : goal.shape_of-order-then-too_short
-shape_of-order-then-too_short c = c.list_states-k.auto.1.1.1.1.1.1.1.1.1.1.1.1.1.1.0
-
-pub shape_of-history_keys-then-too_short : goal.shape_of-history_keys-then-too_short
-shape_of-history_keys-then-too_short c = c.fill.auto.1.1.1.0
-
-pub shape_of-history_skips-then-too_short : goal.shape_of-history_skips-then-too_short
-shape_of-history_skips-then-too_short c = c.fill.auto.1.1.1.1.0
-
 pub returns-then-too_short : goal.returns-then-too_short
-returns-then-too_short c = (listed_short c.requires.0 c.list_states-k.ensures c.if-max-gt-MAX_LISTED.false c.measure_all-total.ensures (outputs c.args.words.now c.args.frames.now c.args.segments.now c.args.ends.now c.args.costs.now) c.finals_count-counts.ensures (short_told c.measure_all-total.result c.list_states-k.result (outputs c.args.words.now c.args.frames.now c.args.segments.now c.args.ends.now c.args.costs.now) c.too_short.ensures c.smaller.ensures c.if-too_short.true), used_late c.if-max-gt-MAX_LISTED.false (record { keys = record { same_length = c.list_states-k.auto.1.1.1.1.1.1.1.1.1.1.1.1.0 }; places = record { same_length = c.list_states-k.auto.1.1.1.1.1.1.1.1.1.1.1.1.1.0 }; order = record { same_length = c.list_states-k.auto.1.1.1.1.1.1.1.1.1.1.1.1.1.1.0 }; history-keys = record { same_length = c.fill.auto.1.1.1.0 }; history-skips = record { same_length = c.fill.auto.1.1.1.1.0 } }))
+returns-then-too_short c = (listed_short c.requires.0 c.list_states-k.ensures c.if-max-gt-MAX_LISTED.false c.measure_all-total.ensures (outputs c.args.words.now c.args.frames.now c.args.segments.now c.args.ends.now c.args.costs.now) c.finals_count-counts.ensures (short_told c.measure_all-total.result c.list_states-k.result (outputs c.args.words.now c.args.frames.now c.args.segments.now c.args.ends.now c.args.costs.now) c.too_short.ensures c.smaller.ensures c.if-too_short.true), used_late c.if-max-gt-MAX_LISTED.false (record { keys = record { same_length = c.list_states-k.auto.keys }; places = record { same_length = c.list_states-k.auto.places }; order = record { same_length = c.list_states-k.auto.order }; history_keys = record { same_length = c.fill.auto.keys }; history_skips = record { same_length = c.fill.auto.skips } }))
 
 pub write_all-requires : goal.write_all-requires
 write_all-requires c = write_asks c.requires.0 c.list_states-k.ensures c.if-max-gt-MAX_LISTED.false c.measure_all-total.ensures (outputs c.args.words.now c.args.frames.now c.args.segments.now c.args.ends.now c.args.costs.now) (short_told c.measure_all-total.result c.list_states-k.result (outputs c.args.words.now c.args.frames.now c.args.segments.now c.args.ends.now c.args.costs.now) c.too_short.ensures c.smaller.ensures c.if-too_short.false)
 
-pub shape_of-keys : goal.shape_of-keys
-shape_of-keys c = c.list_states-k.auto.1.1.1.1.1.1.1.1.1.1.1.1.0
-
-pub shape_of-places : goal.shape_of-places
-shape_of-places c = c.list_states-k.auto.1.1.1.1.1.1.1.1.1.1.1.1.1.0
-
-pub shape_of-order : goal.shape_of-order
-shape_of-order c = c.list_states-k.auto.1.1.1.1.1.1.1.1.1.1.1.1.1.1.0
-
-pub shape_of-history_keys : goal.shape_of-history_keys
-shape_of-history_keys c = c.fill.auto.1.1.1.0
-
-pub shape_of-history_skips : goal.shape_of-history_skips
-shape_of-history_skips c = c.fill.auto.1.1.1.1.0
-
-pub shape_of-words : goal.shape_of-words
-shape_of-words c = c.write_all.auto.1.1.1.1.1.1.1.1.1.1.1.0
-
-pub shape_of-frames : goal.shape_of-frames
-shape_of-frames c = c.write_all.auto.1.1.1.1.1.1.1.1.1.1.1.1.0
-
-pub shape_of-segments : goal.shape_of-segments
-shape_of-segments c = c.write_all.auto.1.1.1.1.1.1.1.1.1.1.1.1.1.0
-
-pub shape_of-ends : goal.shape_of-ends
-shape_of-ends c = c.write_all.auto.1.1.1.1.1.1.1.1.1.1.1.1.1.1.0
-
-pub shape_of-costs : goal.shape_of-costs
-shape_of-costs c = c.write_all.auto.1.1.1.1.1.1.1.1.1.1.1.1.1.1.1.0
-
 pub returns : goal.returns
-returns c = (listed_written c.requires.0 c.list_states-k.ensures c.if-max-gt-MAX_LISTED.false c.measure_all-total.ensures (outputs c.args.words.now c.args.frames.now c.args.segments.now c.args.ends.now c.args.costs.now) c.finals_count-counts.ensures (short_told c.measure_all-total.result c.list_states-k.result (outputs c.args.words.now c.args.frames.now c.args.segments.now c.args.ends.now c.args.costs.now) c.too_short.ensures c.smaller.ensures c.if-too_short.false) c.write_all.ensures, used_late c.if-max-gt-MAX_LISTED.false (record { keys = record { same_length = c.list_states-k.auto.1.1.1.1.1.1.1.1.1.1.1.1.0 }; places = record { same_length = c.list_states-k.auto.1.1.1.1.1.1.1.1.1.1.1.1.1.0 }; order = record { same_length = c.list_states-k.auto.1.1.1.1.1.1.1.1.1.1.1.1.1.1.0 }; history-keys = record { same_length = c.fill.auto.1.1.1.0 }; history-skips = record { same_length = c.fill.auto.1.1.1.1.0 } }))
+returns c = (listed_written c.requires.0 c.list_states-k.ensures c.if-max-gt-MAX_LISTED.false c.measure_all-total.ensures (outputs c.args.words.now c.args.frames.now c.args.segments.now c.args.ends.now c.args.costs.now) c.finals_count-counts.ensures (short_told c.measure_all-total.result c.list_states-k.result (outputs c.args.words.now c.args.frames.now c.args.segments.now c.args.ends.now c.args.costs.now) c.too_short.ensures c.smaller.ensures c.if-too_short.false) c.write_all.ensures, used_late c.if-max-gt-MAX_LISTED.false (record { keys = record { same_length = c.list_states-k.auto.keys }; places = record { same_length = c.list_states-k.auto.places }; order = record { same_length = c.list_states-k.auto.order }; history_keys = record { same_length = c.fill.auto.keys }; history_skips = record { same_length = c.fill.auto.skips } }))

@@ -9,9 +9,6 @@ use Rattle.readings.proofs.measure_all.Goals as goal
 pub loop-i-init : goal.loop-i-init
 loop-i-init c = (omega arith, total_none)
 
-pub offset_bounds-order-i : goal.offset_bounds-order-i
-offset_bounds-order-i c = record { fits = let g = c.well-formed.1.1.1.1.1.1.0.0 in let z = c.requires.long in omega arith }
-
 pub bounds-order-i : goal.bounds-order-i
 bounds-order-i c = let z = c.requires.long in omega arith
 
@@ -23,9 +20,6 @@ overflow_add-words c = record { fits = let z = c.loop-i.invariant.1.few.0 in let
 
 pub overflow_add-segments : goal.overflow_add-segments
 overflow_add-segments c = record { fits = let z = c.loop-i.invariant.1.few.1 in let y = c.measure_at-z.ensures.few.1 in let f = c.requires.few in let q = (c.requires.each _ c.loop-i-test.true).walkable.few in omega arith }
-
-pub overflow_step-i : goal.overflow_step-i
-overflow_step-i c = record { fits = let f = c.requires.few in omega arith }
 
 pub loop-i-smaller : goal.loop-i-smaller
 loop-i-smaller c = omega arith

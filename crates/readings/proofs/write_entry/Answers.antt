@@ -16,32 +16,14 @@ link_at-link-requires c = (c.requires.path.side, c.requires.path.inside)
 pub write_path-to-requires : goal.write_path-to-requires
 write_path-to-requires c = (c.requires.path.walkable, let z = c.requires.path.low in let k = c.link_at-link.ensures in omega arith, subst (λ (l : ℕ). PutAsks (trail_from c.args.records.now c.args.labels.now [] c.args.n l no_trail) c.args.at c.args.words.now c.args.frames.now c.args.segments.now) (sym c.link_at-link.ensures) c.requires.put)
 
-pub overflow_mul-ends : goal.overflow_mul-ends
-overflow_mul-ends c = record { fits = let z = c.requires.few in omega arith }
-
-pub offset_bounds-ends-i : goal.offset_bounds-ends-i
-offset_bounds-ends-i c = record { fits = let z = c.requires.few in omega arith }
-
 pub bounds-ends-i : goal.bounds-ends-i
 bounds-ends-i c = let z = c.requires.ends in omega arith
-
-pub overflow_mul-ends-2 : goal.overflow_mul-ends-2
-overflow_mul-ends-2 c = record { fits = let z = c.requires.few in omega arith }
-
-pub overflow_add-ends : goal.overflow_add-ends
-overflow_add-ends c = record { fits = let z = c.requires.few in omega arith }
-
-pub offset_bounds-ends-i-2 : goal.offset_bounds-ends-i-2
-offset_bounds-ends-i-2 c = record { fits = let z = c.requires.few in omega arith }
 
 pub bounds-ends-i-2 : goal.bounds-ends-i-2
 bounds-ends-i-2 c = let z = c.requires.ends in let y = length-set c.args.ends.now (2 * c.args.i) c.write_path-to.result.words in omega arith
 
 pub end_cost-requires : goal.end_cost-requires
 end_cost-requires c = (c.requires.path.side, c.requires.sums, c.requires.finals)
-
-pub offset_bounds-costs-i : goal.offset_bounds-costs-i
-offset_bounds-costs-i c = record { fits = let z = c.requires.few in omega arith }
 
 pub returns : goal.returns
 returns c = record {

@@ -1,7 +1,6 @@
 -- `refusal_lines::compose` meets its contract: the parts behind each other are the line, which fits 96 bytes.
 use mathlib.Core.Path.{refl, sym, ◌∙◌}
 use native.Mathlib.Omega.{arith}
-use borrow.Author.Tests.{not-true, not-false}
 use Rattle.decimals.specs.Stored.{stored_more}
 use Rattle.refusal_lines.specs.Line.{text, numbered, name_of, place_text, heading, line_of}
 use Rattle.refusal_lines.specs.Laws.{name_length, numbered-length, place-length}
@@ -31,5 +30,5 @@ returns c =
     let call = c.may_have in
     let x = c.args.refusal in
     let n = x.number in
-    rw (sym call.ensures ∙ not-false call.result c.if-not-may_have.false)
+    rw (sym call.ensures ∙ c.if-not-may_have.false)
     (stored_more (heading n) (place_text x.place) (stored_more (numbered (text "refusal ") n) (name_of n) c.put_number-named.ensures c.put_name-placed.ensures) c.put_place.ensures)

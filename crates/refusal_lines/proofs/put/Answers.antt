@@ -9,27 +9,11 @@ use lib.Seq.{sets, length-sets, take-suc, take-length, length-take-le}
 use Rattle.lists.specs.Parts.{sets_append}
 use Rattle.refusal_lines.proofs.put.Goals as goal
 
--- the slice keeps its length
-as_long : (c : goal.At-loop-i invariant-loop decreases-loop) → length c.loop-i.out ≡ length c.args.out.now
-as_long c = ap length c.loop-i.invariant.1 ∙ simp length-sets
-
 pub loop-i-init : goal.loop-i-init
 loop-i-init c = (omega arith, refl)
 
-pub bounds-part-i : goal.bounds-part-i
-bounds-part-i c = omega arith
-
-pub overflow_add-out : goal.overflow_add-out
-overflow_add-out c = omega arith
-
 pub bounds-out-at : goal.bounds-out-at
-bounds-out-at c = omega (arith, as_long c.before.before)
-
-pub overflow_add-i : goal.overflow_add-i
-overflow_add-i c = omega arith
-
-pub loop-i-smaller : goal.loop-i-smaller
-loop-i-smaller c = omega arith
+bounds-out-at c = omega (arith, simp length-sets at (ap length c.loop-i.invariant.1))
 
 pub loop-i-preserved : goal.loop-i-preserved
 loop-i-preserved c =
@@ -40,11 +24,8 @@ loop-i-preserved c =
     let e : length (take l.i part) ≡ l.i = length-take-le l.i part (omega arith) in
     (omega arith, rw (add-one, take-suc part l.i 0, l.invariant.1) (rw e at (sym (sets_append a.out.now a.at (take l.i part) (get_or part l.i 0 ∷ [])))))
 
-pub overflow_add-result : goal.overflow_add-result
-overflow_add-result c = omega arith
-
 pub shape_of-out : goal.shape_of-out
-shape_of-out c = as_long c.before
+shape_of-out c = ap length c.loop-i.invariant.1 ∙ simp length-sets
 
 pub returns : goal.returns
 returns c =

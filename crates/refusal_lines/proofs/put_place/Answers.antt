@@ -10,14 +10,14 @@ use Rattle.refusal_lines.proofs.put_place.Goals as goal
 pub put_number-next-requires : goal.put_number-next-requires
 unfolding text place_text
 put_number-next-requires c =
-    let told = c.place-1.given in
-    omega (arith, ap (λ (p : Place). length (place_text p)) told.1, length-append (numbered (text " state ") told.0.0) (numbered (text " arc ") told.0.1.0))
+    let told = c.in-AtArc in
+    omega (arith, ap (λ (p : Place). length (place_text p)) told.is, length-append (numbered (text " state ") told.state) (numbered (text " arc ") told.arc))
 
 pub put_number-requires : goal.put_number-requires
 unfolding text place_text
 put_number-requires c =
-    let told = c.place-1.given in
-    omega (arith, ap (λ (p : Place). length (place_text p)) told.1, length-append (numbered (text " state ") told.0.0) (numbered (text " arc ") told.0.1.0))
+    let told = c.in-AtArc in
+    omega (arith, ap (λ (p : Place). length (place_text p)) told.is, length-append (numbered (text " state ") told.state) (numbered (text " arc ") told.arc))
 
 pub put_number-requires-in-AtState : goal.put_number-requires-in-AtState
 unfolding text place_text
@@ -34,8 +34,8 @@ returns-in-Nowhere c = rw c.in-Nowhere.is (record { behind = omega arith; writte
 pub returns-in-AtArc : goal.returns-in-AtArc
 unfolding text place_text
 returns-in-AtArc c =
-    let told = c.place-1.given in
-    rw told.1 (stored_more (numbered (text " state ") told.0.0) (numbered (text " arc ") told.0.1.0) c.put_number-next.ensures c.put_number.ensures)
+    let told = c.in-AtArc in
+    rw told.is (stored_more (numbered (text " state ") told.state) (numbered (text " arc ") told.arc) c.put_number-next.ensures c.put_number.ensures)
 
 pub returns-in-AtState : goal.returns-in-AtState
 unfolding text place_text

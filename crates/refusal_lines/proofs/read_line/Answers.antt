@@ -10,34 +10,27 @@ use Rattle.refusal_lines.specs.Answer.{Fits, IsRefusal}
 use Rattle.refusal_lines.specs.Laws.{line-length, only_refusal, refusal_fits, line_not_empty, line_placed}
 use Rattle.refusal_lines.proofs.read_line.Goals as goal
 
--- the only refusal that can have the bytes for its line
-candidate : (c : goal.After-refusal-of) (x : Refusal) → IsRefusal x → line_of x ≡ c.args.bytes.now → c.refusal_of-refusal.result ≡ x
-candidate c x r d = let found = c.numbers_in in only_refusal _ found.result x c.refusal_of-refusal.result found.ensures c.refusal_of-refusal.ensures r d
-
 pub returns-then-end-eq0 : goal.returns-then-end-eq0
-returns-then-end-eq0 c x r d = omega (arith, ap (λ (y : Refusal). length (line_of y)) (candidate c.before.before.before.before x r d), line_not_empty x r)
+returns-then-end-eq0 c x r d = omega (arith, ap (λ (y : Refusal). length (line_of y)) (only_refusal _ c.numbers_in.result x c.refusal_of-refusal.result c.numbers_in.ensures c.refusal_of-refusal.ensures r d), line_not_empty x r)
 
 pub slice_bounds-line-end : goal.slice_bounds-line-end
 slice_bounds-line-end c = omega (arith, line-length c.refusal_of-refusal.result)
 
 pub slice_bounds-composed-end : goal.slice_bounds-composed-end
-slice_bounds-composed-end c = omega (arith, line-length c.refusal_of-refusal.result, length-take c.compose-end.result c.compose-end.new.1.0)
-
--- what was composed is compared
-written : (c : goal.After-same) → take c.compose-end.result c.compose-end.new.1.0 ≡ line_of c.refusal_of-refusal.result
-written c =
-    let y = c.refusal_of-refusal.result in
-    stored_front (line_of y) c.compose-end.ensures (omega (arith, line-length y))
+slice_bounds-composed-end c = omega (arith, line-length c.refusal_of-refusal.result, length-take c.compose-end.result c.compose-end.new.out)
 
 pub returns-then-same : goal.returns-then-same
 returns-then-same c =
     let call = c.refusal_of-refusal in
-    let found = c.numbers_in.result in (
+    let found = c.numbers_in.result in
+    let written = stored_front (line_of call.result) c.compose-end.ensures (omega (arith, line-length call.result)) in (
       record { fits = subst Fits (sym call.ensures) (refusal_fits found (omega arith) (omega arith) (omega arith)); placed = line_placed call.result (omega arith) },
-      sym (written c.before) ∙ c.same.ensures.0 c.if-same.true,
+      sym written ∙ c.same.ensures.0 c.if-same.true,
     )
 
 pub returns : goal.returns
 returns c x r d =
-    let e = candidate c.before.before.before.before.before.before.before x r d in
-    never (sym c.if-same.false ∙ c.same.ensures.1 (written c.before ∙ ap line_of e ∙ d))
+    let y = c.refusal_of-refusal.result in
+    let e = only_refusal _ c.numbers_in.result x y c.numbers_in.ensures c.refusal_of-refusal.ensures r d in
+    let written = stored_front (line_of y) c.compose-end.ensures (omega (arith, line-length y)) in
+    never (sym c.if-same.false ∙ c.same.ensures.1 (written ∙ ap line_of e ∙ d))

@@ -13,10 +13,10 @@ pub slice_bounds-line-end : goal.slice_bounds-line-end
 slice_bounds-line-end c = omega (arith, line-length c.args.refusal)
 
 pub slice_bounds-put-end : goal.slice_bounds-put-end
-slice_bounds-put-end c = omega (arith, line-length c.args.refusal, length-take c.compose-end.result c.compose-end.new.1.0)
+slice_bounds-put-end c = omega (arith, line-length c.args.refusal, length-take c.compose-end.result c.compose-end.new.out)
 
 pub put-requires : goal.put-requires
-put-requires c = omega (arith, length-take c.compose-end.result c.compose-end.new.1.0)
+put-requires c = omega (arith, length-take c.compose-end.result c.compose-end.new.out)
 
 pub returns : goal.returns
 returns c =
@@ -27,5 +27,5 @@ returns c =
     let h : length line ≤ length a.out.now = omega arith in
     let n : made.result ≡ length line = omega arith in
     let same = stored_front line made.ensures (omega (arith, line-length a.refusal)) in
-    let stored = subst (λ (part : List ℕ). Stored a.out.now 0 part put.result put.new.1.0) same put.ensures in
+    let stored = subst (λ (part : List ℕ). Stored a.out.now 0 part put.result put.new.out) same put.ensures in
     (h, n, rw n (stored_start line stored h))

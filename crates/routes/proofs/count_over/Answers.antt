@@ -7,4 +7,4 @@ pub returns-then-word-ne0 : goal.returns-then-word-ne0
 returns-then-word-ne0 c = rw (nonzero_yes c.args.word c.if-word-ne0.true) (omega arith)
 
 pub returns : goal.returns
-returns c = rw (nonzero_no c.args.word (record { sfits = c.well-formed.1.0 }) c.if-word-ne0.false) (omega arith)
+returns c = rw (nonzero_no c.args.word c.ranges.word c.if-word-ne0.false) (omega arith)

@@ -12,10 +12,7 @@ pub put_count-requires : goal.put_count-requires
 put_count-requires c = (c.requires.0, c.loop-k-test.true, c.loop-k.invariant.2)
 
 pub loop-k-preserved : goal.loop-k-preserved
-loop-k-preserved c = (omega arith, c.put_count.auto.1.1.1.1.0 ∙ c.loop-k.invariant.1, c.put_count.ensures)
-
-pub shape_of-history_counts : goal.shape_of-history_counts
-shape_of-history_counts c = c.loop-k.invariant.1
+loop-k-preserved c = (omega arith, c.put_count.auto.history_counts ∙ c.loop-k.invariant.1, c.put_count.ensures)
 
 pub returns : goal.returns
 returns c = let e : c.loop-k.k ≡ c.args.used = omega arith in rw e at c.loop-k.invariant.2

@@ -13,4 +13,4 @@ count_over-n-requires c = let p = prev_counted c.requires.0 c.requires.1 c.requi
     omega (arith, p.0, p.2, c.requires.0.few)
 
 pub returns : goal.returns
-returns c = counts_more c.requires.0 c.requires.1 c.requires.2 (omega arith) c.prev_of-prev.ensures (back c.word_of-word.result c.word_of-word.type-inv ∙ c.word_of-word.ensures) c.count_at.ensures c.count_over-n.ensures
+returns c = counts_more c.requires.0 c.requires.1 c.requires.2 (omega arith) c.prev_of-prev.ensures (back c.word_of-word.result c.word_of-word.type_inv ∙ c.word_of-word.ensures) c.count_at.ensures c.count_over-n.ensures

@@ -34,8 +34,5 @@ loop-e-smaller c = goes_low c.requires c.loop-e.invariant c.loop-e-test.true
 pub loop-e-preserved : goal.loop-e-preserved
 loop-e-preserved c = routing_next c.requires c.loop-e.invariant c.loop-e-test.true c.put_join-n.ensures
 
-pub shape_of-route : goal.shape_of-route
-shape_of-route c = c.loop-e.invariant.long
-
 pub returns : goal.returns
 returns c = routing_end c.loop-e-test.false c.loop-e.invariant

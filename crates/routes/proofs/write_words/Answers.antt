@@ -29,8 +29,5 @@ loop-k-preserved c = let x = c.next_on-x.result in
     let low = c.loop-k.invariant.low in
     rw (back x.word c.struct_told-1.given.0.1) (writing_next c.requires.2 c.requires.3 c.loop-k.invariant c.loop-k-test.true (skip_next c.requires.4 (omega (arith, c.requires.1)) c.skip_at.ensures c.requires.0 c.next_on-x.ensures))
 
-pub shape_of-words : goal.shape_of-words
-shape_of-words c = c.loop-k.invariant.long
-
 pub returns : goal.returns
 returns c = writing_end c.requires.2 c.requires.3 c.loop-k-test.false c.loop-k.invariant

@@ -22,26 +22,11 @@ loop-i-init c =
     let call = c.can_fill in
     filling_none (to_z w32) a.bytes.now a.at a.n a.out.now (sym call.ensures ∙ c.if-not-can_fill.false)
 
-pub overflow_add-at : goal.overflow_add-at
-overflow_add-at c = omega arith
-
-pub offset_bounds-out-i : goal.offset_bounds-out-i
-offset_bounds-out-i c = omega arith
-
-pub bounds-out-i : goal.bounds-out-i
-bounds-out-i c = omega arith
-
-pub overflow_add-i : goal.overflow_add-i
-overflow_add-i c = omega arith
-
-pub loop-i-smaller : goal.loop-i-smaller
-loop-i-smaller c = omega arith
-
 pub loop-i-preserved : goal.loop-i-preserved
 loop-i-preserved c =
     let a = c.args in
     let l = c.loop-i in
-    filling_more (to_z w32) a.bytes.now a.at a.n a.out.now (pos 0) (to_z w32 (of_z w32 c.Int-of.result)) l.out l.i l.invariant c.loop-i-test.true (to_z-of_z w32 c.Int-of.result (record { sfits = c.Int-of.type-inv }) ∙ c.Int-of.ensures ∙ ap (to_z w32) c.word_at.ensures)
+    filling_more (to_z w32) a.bytes.now a.at a.n a.out.now (pos 0) (to_z w32 (of_z w32 c.int_of.result)) l.out l.i l.invariant c.loop-i-test.true (to_z-of_z w32 c.int_of.result (record { sfits = c.int_of.type_inv }) ∙ c.int_of.ensures ∙ ap (to_z w32) c.word_at.ensures)
 
 pub shape_of-out : goal.shape_of-out
 shape_of-out c = c.loop-i.invariant.as_long

@@ -21,21 +21,12 @@ loop-i-init c =
     let a = c.args in
     (c.segment_count-count.ensures, (search rules, within a.phones.now a.starts.now a.ends.now (omega arith)))
 
-pub bounds-ends-i : goal.bounds-ends-i
-bounds-ends-i c = omega arith
-
-pub bounds-starts-i : goal.bounds-starts-i
-bounds-starts-i c = omega arith
-
 pub returns-then-ends-i : goal.returns-then-ends-i
 returns-then-ends-i c =
     let a = c.args in
     let l = c.loop-i in
     let b : bad_segment (segment_at a.phones.now a.starts.now a.ends.now l.i) ≡ true = rw (lt-ltb (get_or a.ends.now l.i 0) (get_or a.starts.now l.i 0) c.if-ends-i.true) in
     sym (l.invariant.1.1 ∙ bad_here a.phones.now a.starts.now a.ends.now l.i (omega arith) b)
-
-pub bounds-ends-i-in-loop-i : goal.bounds-ends-i-in-loop-i
-bounds-ends-i-in-loop-i c = omega arith
 
 pub returns-then-ends-i-gt-MAX_FRAMES : goal.returns-then-ends-i-gt-MAX_FRAMES
 returns-then-ends-i-gt-MAX_FRAMES c =

@@ -12,21 +12,12 @@ pub loop-f-init : goal.loop-f-init
 unfolding deltas_on
 loop-f-init c = (c.requires.begins, (omega arith, zero-add _))
 
-pub step_at-s-requires : goal.step_at-s-requires
-step_at-s-requires c = (c.requires, omega arith)
-
 pub overflow_add-count : goal.overflow_add-count
 overflow_add-count c =
     let a = c.args in
     let l = c.loop-f in
     let t = c.step_at-s in
     omega (arith, times_few a.w a.status.now a.weights.now l.previous l.f t.result t.ensures, c.requires.few, c.requires.times)
-
-pub overflow_add-f : goal.overflow_add-f
-overflow_add-f c = omega (arith, c.requires.few)
-
-pub loop-f-smaller : goal.loop-f-smaller
-loop-f-smaller c = omega arith
 
 pub loop-f-preserved : goal.loop-f-preserved
 loop-f-preserved c =

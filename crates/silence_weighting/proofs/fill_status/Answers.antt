@@ -9,17 +9,11 @@ use Rattle.silence_weighting.proofs.fill_status.Goals as goal
 pub loop-i-init : goal.loop-i-init
 loop-i-init c = (refl, refl)
 
-pub bounds-status-i : goal.bounds-status-i
-bounds-status-i c = omega arith
-
 pub loop-i-preserved : goal.loop-i-preserved
 loop-i-preserved c =
     let l = c.loop-i in
     let a = c.args in
     (length-set l.status l.i a.value ∙ l.invariant.0, fill_more l.status l.i a.to a.value (omega arith) ∙ l.invariant.1)
-
-pub shape_of-status : goal.shape_of-status
-shape_of-status c = c.loop-i.invariant.0
 
 pub returns : goal.returns
 returns c =

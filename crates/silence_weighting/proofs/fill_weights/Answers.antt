@@ -9,17 +9,11 @@ use Rattle.silence_weighting.proofs.fill_weights.Goals as goal
 pub loop-i-init : goal.loop-i-init
 loop-i-init c = (refl, refl)
 
-pub bounds-weights-i : goal.bounds-weights-i
-bounds-weights-i c = omega arith
-
 pub loop-i-preserved : goal.loop-i-preserved
 loop-i-preserved c =
     let l = c.loop-i in
     let a = c.args in
     (length-set l.weights l.i a.value ∙ l.invariant.0, fill_more l.weights l.i a.to a.value (omega arith) ∙ l.invariant.1)
-
-pub shape_of-weights : goal.shape_of-weights
-shape_of-weights c = c.loop-i.invariant.0
 
 pub returns : goal.returns
 returns c =

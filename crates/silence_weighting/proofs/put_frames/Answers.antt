@@ -16,17 +16,11 @@ overflow_add-frames c = omega arith
 pub overflow_add-frames-in-loop-k : goal.overflow_add-frames-in-loop-k
 overflow_add-frames-in-loop-k c = omega arith
 
-pub bounds-frames-at : goal.bounds-frames-at
-bounds-frames-at c = omega arith
-
 pub loop-k-preserved : goal.loop-k-preserved
 loop-k-preserved c =
     let l = c.loop-k in
     let a = c.args in
     (length-set l.frames (a.at + l.k) (a.number + l.k) ∙ l.invariant.0, put_more l.frames a.at a.number a.times l.k (omega arith) ∙ l.invariant.1)
-
-pub shape_of-frames : goal.shape_of-frames
-shape_of-frames c = c.loop-k.invariant.0
 
 pub returns : goal.returns
 returns c =

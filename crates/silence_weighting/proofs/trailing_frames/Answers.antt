@@ -4,6 +4,7 @@ use Prim.Native.Nat.{◌<◌, ◌-◌}
 use mathlib.Core.Path.{◌≡◌, sym, ap, ◌∙◌}
 use mathlib.Core.Bool.{true, false}
 use native.Mathlib.Omega.{arith}
+use borrow.Author.Rules.{rules}
 use lib.ListN.{get_or}
 use lib.IntN.{pos}
 use mir.Syntax.{w32}
@@ -18,24 +19,6 @@ loop-i-init c =
     let e = back_all a.silence_phones.now a.phones.now a.starts.now a.ends.now c.segment_count-i.result c.segment_count-i.ensures in
     (omega (arith, c.segment_count-i.ensures), (omega arith, omega (arith, ap (trailing a.silence_phones.now) e)))
 
-pub offset_bounds-phones-i : goal.offset_bounds-phones-i
-offset_bounds-phones-i c = omega (arith, good_count c.args.phones.now c.args.starts.now c.args.ends.now c.requires)
-
-pub bounds-phones-i : goal.bounds-phones-i
-bounds-phones-i c = omega arith
-
-pub offset_bounds-ends-i : goal.offset_bounds-ends-i
-offset_bounds-ends-i c = omega (arith, good_count c.args.phones.now c.args.starts.now c.args.ends.now c.requires)
-
-pub bounds-ends-i : goal.bounds-ends-i
-bounds-ends-i c = omega arith
-
-pub offset_bounds-starts-i : goal.offset_bounds-starts-i
-offset_bounds-starts-i c = omega (arith, good_count c.args.phones.now c.args.starts.now c.args.ends.now c.requires)
-
-pub bounds-starts-i : goal.bounds-starts-i
-bounds-starts-i c = omega arith
-
 pub overflow_sub-n : goal.overflow_sub-n
 overflow_sub-n c =
     omega (arith, (good_at c.args.phones.now c.args.starts.now c.args.ends.now c.requires (c.loop-i.i - 1) (omega arith)).0)
@@ -48,15 +31,12 @@ pub overflow_add-n : goal.overflow_add-n
 overflow_add-n c =
     omega (arith, (good_at c.args.phones.now c.args.starts.now c.args.ends.now c.requires (c.loop-i.i - 1) (omega arith)).1, good_count c.args.phones.now c.args.starts.now c.args.ends.now c.requires)
 
-pub loop-i-smaller : goal.loop-i-smaller
-loop-i-smaller c = omega arith
-
 pub loop-i-preserved : goal.loop-i-preserved
 loop-i-preserved c =
     let a = c.args in
     let l = c.loop-i in
     let h : 0 < l.i = c.loop-i-test.true in
-    let e = to_z-of_z w32 (get_or a.phones.now (l.i - 1) (pos 0)) (record { sfits = c.is_silence-arg-1.given }) in
+    let e = to_z-of_z w32 (get_or a.phones.now (l.i - 1) (pos 0)) (search rules) in
     let s : is_silence a.silence_phones.now (get_or a.phones.now (l.i - 1) (pos 0)) ≡ true = sym (rw e at c.is_silence.ensures) ∙ c.if-is_silence.true in
     let m = silent_more a.silence_phones.now a.phones.now a.starts.now a.ends.now l.i h s in
     let g = (good_at a.phones.now a.starts.now a.ends.now c.requires (l.i - 1) (omega arith)).1 in
@@ -67,7 +47,7 @@ returns-else-is_silence c =
     let a = c.args in
     let l = c.loop-i in
     let h : 0 < l.i = c.loop-i-test.true in
-    let e = to_z-of_z w32 (get_or a.phones.now (l.i - 1) (pos 0)) (record { sfits = c.is_silence-arg-1.given }) in
+    let e = to_z-of_z w32 (get_or a.phones.now (l.i - 1) (pos 0)) (search rules) in
     let s : is_silence a.silence_phones.now (get_or a.phones.now (l.i - 1) (pos 0)) ≡ false = sym (rw e at c.is_silence.ensures) ∙ c.if-is_silence.false in
     omega (arith, l.invariant.1.1, silent_stop a.silence_phones.now a.phones.now a.starts.now a.ends.now l.i h s)
 

@@ -14,7 +14,7 @@ sum_record-requires c = (c.requires.0, c.loop-k-test.true, c.loop-k.invariant.3)
 pub loop-k-preserved : goal.loop-k-preserved
 loop-k-preserved c = let o = c.sum_record in
     let l = c.loop-k in
-    (omega arith, o.auto.1.1.1.1.0 ∙ l.invariant.1, o.auto.1.1.1.1.1.0 ∙ l.invariant.2, o.ensures)
+    (omega arith, o.auto.history_keys ∙ l.invariant.1, o.auto.history_skips ∙ l.invariant.2, o.ensures)
 
 pub shape_of-history_keys : goal.shape_of-history_keys
 shape_of-history_keys c = c.loop-k.invariant.1

@@ -9,4 +9,4 @@ pub returns-then-joined : goal.returns-then-joined
 returns-then-joined c = yes _ _ c.if-joined.true
 
 pub returns : goal.returns
-returns c = no _ _ c.if-joined.false (c.key_over.ensures ∙ ap₂ key_over c.key_at.ensures (back c.args.word c.well-formed.1.1.1.0))
+returns c = no _ _ c.if-joined.false (c.key_over.ensures ∙ ap₂ key_over c.key_at.ensures (back c.args.word c.well_formed.1.1.1.0))

@@ -7,4 +7,4 @@ use Rattle.summaries.proofs.Table.{key_with}
 use Rattle.summaries.proofs.key_over.Goals as goal
 
 pub returns : goal.returns
-returns c = ap (λ (x : Hashed). x.hash) c.with_word-h.ensures ∙ key_with _ _ _ _ ∙ ap (key_over c.args.key) (back c.args.word c.well-formed.1.0)
+returns c = ap (λ (x : Hashed). x.hash) c.with_word-h.ensures ∙ key_with _ _ _ _ ∙ ap (key_over c.args.key) (back c.args.word c.well_formed.1.0)

@@ -11,7 +11,7 @@ same_above-requires c = let p = c.requires in (
   p.0,
   let k = c.skip_at.ensures in let z = (p.1.skips _ p.2).low in omega (arith, p.2),
   let k = c.skip_at-2.ensures in let z = (p.1.skips _ p.3).low in omega (arith, p.3),
-  let k = c.end_at-end.ensures in let z = (end_is p.1 c.args.to-join p.2).low in omega (arith, p.2),
+  let k = c.end_at-end.ensures in let z = (end_is p.1 c.args.to_join p.2).low in omega (arith, p.2),
 )
 
 pub returns : goal.returns

@@ -13,13 +13,8 @@ use Rattle.model.specs.Reads.{least_from}
 use Rattle.tokens.specs.Layout.{Cell, cell_at}
 use Rattle.traceback.specs.Table.{walk_start, walk_turn, walk_end}
 use Rattle.lists.specs.Members.{get_d_any}
+use Rattle.traceback.proofs.least_costs.Invariants.{from, whole}
 use Rattle.traceback.proofs.least_costs.Goals as goal
-
-abbrev from : Graph → (cost ending : Float) → ℕ → Table → Float × Float
-from g x y s ts = least_from g s ts (x, y)
-
-abbrev whole : Graph → Table → Float × Float
-whole g ts = least_from g 0 ts (∞, ∞)
 
 pub loop-s-init : goal.loop-s-init
 loop-s-init c = λ g q. walk_start (from g c.infinity-cost.result c.infinity-ending.result) (whole g) (λ s rest. refl) (λ ts. ap₂ (λ (x y : Float). least_from g 0 ts (x, y)) c.infinity-cost.ensures c.infinity-ending.ensures) c.next_active-s.ensures

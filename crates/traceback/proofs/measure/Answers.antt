@@ -3,12 +3,12 @@ use mathlib.Core.Path.{refl, ap, ◌∙◌}
 use mathlib.Core.Logic.{inl, inr}
 use Prim.Native.Nat.{ℕ, ◌-◌}
 use native.Mathlib.Omega.{arith}
-use Rattle.lists.specs.Tests.{case}
 use Rattle.model.specs.Ints.{nonzero_yes, nonzero_no}
 use Rattle.traceback.specs.declared.Step.{Step}
 use Rattle.traceback.specs.declared.Head.{Head}
 use Rattle.traceback.specs.Chain.{head_on}
 use Rattle.traceback.specs.Walk.{step_low, head_few, measuring_none, measuring_next, measuring_end}
+use Rattle.traceback.proofs.measure.Goals.{then-word-ne0, else-word-ne0}
 use Rattle.traceback.proofs.measure.Goals as goal
 
 pub loop-r-init : goal.loop-r-init
@@ -38,7 +38,10 @@ loop-r-smaller c = let few = c.loop-r.invariant.few in
 pub loop-r-preserved : goal.loop-r-preserved
 loop-r-preserved c = let s = c.step_at-s.result in
     measuring_next c.args.link c.requires.0 c.requires.1 s c.loop-r-test.true c.step_at-s.ensures
-    (case c.if-word-ne0.branch (λ x. inl (nonzero_yes s.word x.0.taken, x.1)) (λ x. inr (nonzero_no s.word (record { sfits = c.struct_told-1.given.1.1.0.1 }) x.0.left, x.1)))
+    (elim c.if-word-ne0.branch
+    [ then-word-ne0 w ↦ inl (nonzero_yes s.word w.if-word-ne0.true, w.words-is)
+    | else-word-ne0 w ↦ inr (nonzero_no s.word (record { sfits = search }) w.if-word-ne0.false, w.words-is)
+    ])
     (c.begin-head.ensures ∙ ap (λ (x : ℕ). head_on c.loop-r.head x s.at) c.resumes.ensures) c.begin-head-in-loop-r.ensures c.loop-r.invariant
 
 pub returns : goal.returns

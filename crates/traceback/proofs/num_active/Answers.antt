@@ -1,17 +1,10 @@
 -- What is counted and what is still to be counted make the whole.
 use mathlib.Core.Path.{refl}
-use Prim.Native.Nat.{ℕ, ◌+◌, ◌-◌}
+use Prim.Native.Nat.{◌+◌}
 use native.Mathlib.Omega.{arith}
-use lib.ListN.{length}
-use Rattle.model.specs.Path.{Table, tokens}
 use Rattle.traceback.specs.Table.{walk_start, walk_turn, walk_end}
+use Rattle.traceback.proofs.num_active.Invariants.{counts, whole}
 use Rattle.traceback.proofs.num_active.Goals as goal
-
-abbrev counts : ℕ → ℕ → Table → ℕ
-counts k s ts = k + length (tokens ts)
-
-abbrev whole : Table → ℕ
-whole ts = length (tokens ts)
 
 pub loop-s-init : goal.loop-s-init
 loop-s-init c = (omega arith, λ sm. walk_start (counts 0) whole (λ s rest. refl) (λ ts. omega arith) c.next_active-s.ensures)

@@ -19,7 +19,7 @@ step_at-s-requires c = let low = c.loop-r.invariant.low in
 pub put_word-at-requires : goal.put_word-at-requires
 put_word-at-requires c = let p = c.requires in
     let s = c.step_at-s.result in
-    rw (back s.word c.struct_told-1.given.1.1.0.1) (word_asks p.0 p.1 p.2 p.3 c.loop-r.invariant s c.loop-r-test.true c.step_at-s.ensures)
+    rw (back s.word search) (word_asks p.0 p.1 p.2 p.3 c.loop-r.invariant s c.loop-r-test.true c.step_at-s.ensures)
 
 pub begin_in-head-requires : goal.begin_in-head-requires
 begin_in-head-requires c = let p = c.requires in
@@ -47,7 +47,7 @@ pub loop-r-preserved : goal.loop-r-preserved
 loop-r-preserved c = let p = c.requires in
     let s = c.step_at-s.result in
     writing_next p.0 p.1 p.2 p.3 c.loop-r.invariant s c.loop-r-test.true c.step_at-s.ensures c.begin_in-head.result (c.begin_in-head.ensures.head ∙ ap (λ (x : ℕ). head_on c.loop-r.head x s.at) c.resumes.ensures)
-    (rw (back s.word c.struct_told-1.given.1.1.0.1) at c.put_word-at.ensures) c.begin_in-head.ensures.written c.begin_in-head-in-loop-r.ensures
+    (rw (back s.word search) at c.put_word-at.ensures) c.begin_in-head.ensures.written c.begin_in-head-in-loop-r.ensures
 
 pub put_segment-requires : goal.put_segment-requires
 put_segment-requires c = let p = c.requires in

@@ -59,18 +59,3 @@ slice_bounds-reading_list-end-26 c = sym (length-take-le _ _ (omega (arith, c.re
 
 pub reading_list-requires : goal.reading_list-requires
 reading_list-requires c = readings_lent _ _ _ _ _ _ _ _ _ _ (length (take c.args.s.kept c.kept_hash_places-kept_hashes.result)) _ _ c.key_places-keys.ensures c.state_places-places.ensures c.state_places-own.ensures c.state_places-heads.ensures c.item_places-list.ensures c.list_places-lists.ensures c.route_places-route.ensures c.history_key_places-history_keys.ensures c.list_places-history_skips.ensures c.kept_order_places-numbering.ensures c.kept_link_places-kept_links.ensures c.kept_sum_places-kept_sums.ensures c.requires.0
-
-pub shape_of-words : goal.shape_of-words
-shape_of-words c = c.words-1.given.1
-
-pub shape_of-frames : goal.shape_of-frames
-shape_of-frames c = c.frames-1.given.1
-
-pub shape_of-segments : goal.shape_of-segments
-shape_of-segments c = c.segments-1.given.1
-
-pub shape_of-numbers : goal.shape_of-numbers
-shape_of-numbers c = c.numbers-1.given.1
-
-pub shape_of-costs : goal.shape_of-costs
-shape_of-costs c = c.costs-1.given.1

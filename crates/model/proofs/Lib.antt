@@ -1,0 +1,4 @@
+pub mod Came
+pub mod Checked
+pub mod Accepted
+pub mod Search
