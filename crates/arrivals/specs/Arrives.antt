@@ -20,7 +20,8 @@ use Rattle.records.specs.Stands.{Stands}
 use Rattle.compaction.specs.declared.Made.{Made}
 use Rattle.compaction.specs.Count.{Known, Tight}
 use Rattle.compaction.specs.Carried.{Holds}
-use Rattle.copy_laws.specs.Tables.{vacant as vacancies, vacant_fill, vacant_same}
+use Rattle.copy_laws.specs.Tables.{vacant as vacancies}
+use Rattle.copy_laws.proofs.Tables.{vacant_fill, vacant_same}
 use Rattle.stores.specs.Shown.{Shows, shows_none, shows_token, Shown}
 use Rattle.stores.specs.Grown.{Grown, is_grown, shown_grown}
 use Rattle.stores.specs.Tables.{shown_put, shown_aside}

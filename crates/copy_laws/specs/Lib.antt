@@ -1,14 +1,12 @@
 -- What holds of the whole-path copy after every list of calls. The claims are in `Claims` and proved in `Statement`; what leads there stands in this order.
 
 -- paths as document 01 has them, and tables of tokens
-pub mod Labels
 pub mod Walks
 pub mod Routes
 pub mod Tables
 -- facts carried through the passes, with or without the claim that nothing is cut
 pub mod Drops
 pub mod Begun
-pub mod Carried
 -- the invariant: of a token, of a table, of a state
 pub mod Sums
 pub mod Shapes
@@ -20,18 +18,14 @@ pub mod States
 pub mod Spending
 pub mod Ends
 pub mod Within
-pub mod Spread
 pub mod Closing
 pub mod Least
-pub mod Uncut
 -- lists of calls, and the copy that is told
 pub mod Points
 pub mod Cuts
-pub mod Remembered
 pub mod Agrees
 pub mod Told
 -- what is read
-pub mod Minima
 pub mod Ranks
 pub mod Sooner
 pub mod Listed
@@ -49,10 +43,8 @@ pub mod Groups
 pub mod Traces
 -- the claims
 pub mod Claims
-pub mod Answers
 pub mod Sayings
 pub mod Refusals
 pub mod StartSums
-pub mod Statement
 -- closed cases
 pub mod Cases

@@ -1,6 +1,5 @@
 -- What holds all over a path, kept paths too: numbers fall, phones start where they change, and at a branch the kept path ends where the winner's does. Assumes nothing.
-use Rattle.std.specs.Prelude.{◌≡◌, refl, ℕ, ◌-◌, ◌<◌, ◌≤◌, true, false, cond, List, [], ◌∷◌, ◌++◌, ℤ, pos}
-use Rattle.std.proofs.Common.{sym, ap, ◌∙◌, arith, append_assoc}
+use Rattle.std.specs.Prelude.{◌≡◌, ℕ, ◌-◌, ◌<◌, true, false, cond, List, [], ◌∷◌, ◌++◌, ℤ, pos}
 use Rattle.model.specs.Basics.{◌⊖◌, eqℤ}
 use Rattle.model.specs.Graph.{Graph, Arc, emits, phone_of}
 use Rattle.model.specs.Path.{Step, Merge, Path, empty_path, arc_onto, branch_on}
@@ -15,11 +14,6 @@ Falling f empty_path = Unit {0}
 Falling f (arc_onto x p) = (x.number < f) × Falling x.number p
 Falling f (branch_on m k p) = (m.number < f) × Falling m.number k × Falling m.number p
 
-pub falling_more : (f f' : ℕ) (p : Path) → f ≤ f' → Falling f p → Falling f' p
-falling_more f f' empty_path i d = tt
-falling_more f f' (arc_onto x p) i d = (let z = d.0 in omega arith, d.1)
-falling_more f f' (branch_on m k p) i d = (let z = d.0 in omega arith, d.1, d.2)
-
 -- ---- phones
 
 -- the phone of the last emitting arc, ph where there is none
@@ -29,11 +23,6 @@ phone_from g ph (a ∷ rest) = phone_from g (cond (emits a) (phone_of g a) ph) r
 
 abbrev pub phone_on : Graph → Path → ℤ
 phone_on g p = phone_from g (pos 0) (arcs p)
-
-pub phone-append : (g : Graph) (ph : ℤ) (route : List Arc) (a : Arc) → phone_from g ph (route ++ (a ∷ [])) ≡ cond (emits a) (phone_of g a) (phone_from g ph route)
-unfolding phone_from
-phone-append g ph [] a = refl
-phone-append g ph (b ∷ route) a = phone-append g (cond (emits b) (phone_of g b) ph) route a
 
 -- the phone that an arc in phone `ph` starts after one in phone `old`, 0 for none
 abbrev pub started_by : (ph old : ℤ) → ℤ
@@ -69,22 +58,8 @@ Forks g fs empty_path = Unit {0}
 Forks g fs (arc_onto x p) = Forks g fs p
 Forks g fs (branch_on m k p) = Fork g fs m k p × Forks g fs k × Forks g fs p
 
-fork_more : (g : Graph) (fs more : List Heard) (m : Merge) (k p : Path) → Fork g fs m k p → Fork g (fs ++ more) m k p
-fork_more g fs more m k p b =
-    record { frames = b.frames; later = b.later ++ more; first = sym (append_assoc b.frames b.later more) ∙ ap (λ (l : List Heard). l ++ more) b.first; end = b.end; kept = b.kept; won = b.won; numbered = b.numbered; cost = b.cost; graph = b.graph; small = b.small }
-
-pub forks_more : (g : Graph) (fs more : List Heard) (p : Path) → Forks g fs p → Forks g (fs ++ more) p
-forks_more g fs more empty_path b = tt
-forks_more g fs more (arc_onto x p) b = forks_more g fs more p b
-forks_more g fs more (branch_on m k p) b = (fork_more g fs more m k p b.0, forks_more g fs more k b.1, forks_more g fs more p b.2)
-
 -- the differences alone
 abbrev pub Differences : Path → Type 0
 Differences empty_path = Unit {0}
 Differences (arc_onto x p) = Differences p
 Differences (branch_on m k p) = Difference m × Differences k × Differences p
-
-pub differences : (g : Graph) (fs : List Heard) (p : Path) → Forks g fs p → Differences p
-differences g fs empty_path b = tt
-differences g fs (arc_onto x p) b = differences g fs p b
-differences g fs (branch_on m k p) b = (b.0.small, differences g fs k b.1, differences g fs p b.2)

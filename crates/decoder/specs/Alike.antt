@@ -9,7 +9,8 @@ use Rattle.model.specs.Cutoff.{Config as Settings}
 use Rattle.model.specs.Passes.{State, fitted}
 use Rattle.model.specs.Calls.{Call, start_call, frame_call, keep_call, Answer, answers, call}
 use Rattle.copy_laws.specs.Walks.{Heard}
-use Rattle.copy_laws.specs.Told.{told_of, limited_from, limited_after, limited_more, after_more, tell_from, told_right}
+use Rattle.copy_laws.specs.Told.{told_of, limited_from, limited_after, tell_from}
+use Rattle.copy_laws.proofs.Told.{limited_more, after_more, told_right}
 use Rattle.stores.specs.Rep.{Lent}
 use Rattle.arcs.specs.State.{Tables}
 use Rattle.checks.specs.Fit.{record_places}

@@ -16,8 +16,10 @@ use Rattle.model.specs.Arrive.{Here, Work as ModelWork}
 use Rattle.model.specs.Passes.{State, no_tokens, dropped, done, during, start_token, start_work, nonemitting_pass, start, fair_margin}
 use Rattle.model.specs.Calls.{start_call, said, call, Said}
 use Rattle.model.specs.Accepted.{Ok}
-use Rattle.copy_laws.specs.Tables.{vacant, vacant_le}
-use Rattle.copy_laws.specs.States.{Standing, standing_none, start_inside, start_standing}
+use Rattle.copy_laws.specs.Tables.{vacant}
+use Rattle.copy_laws.proofs.Tables.{vacant_le}
+use Rattle.copy_laws.specs.States.{Standing}
+use Rattle.copy_laws.proofs.States.{standing_none, start_inside, start_standing}
 use Rattle.tokens.specs.declared.Token.{Token as Stored}
 use Rattle.tokens.specs.Layout.{place_in, requeued_at, TokenPut, Cleared}
 use Rattle.joins.specs.Model.{margin_of}

@@ -24,8 +24,10 @@ use Rattle.copy_laws.specs.Walks.{Heard}
 use Rattle.copy_laws.specs.Tables.{At as TokenAt}
 use Rattle.copy_laws.specs.Shapes.{Falling}
 use Rattle.copy_laws.specs.Active.{Active}
-use Rattle.copy_laws.specs.Kept.{hearing, Since, emitting_active}
-use Rattle.copy_laws.specs.States.{Standing, Usable, usable, in_frame, frame_standing}
+use Rattle.copy_laws.specs.Kept.{hearing, Since}
+use Rattle.copy_laws.proofs.Kept.{emitting_active}
+use Rattle.copy_laws.specs.States.{Standing, Usable, in_frame}
+use Rattle.copy_laws.proofs.States.{usable, frame_standing}
 use Rattle.cutoff.specs.declared.Config.{Config}
 use Rattle.cutoff.specs.Costs.{config_of, Fine}
 use Rattle.tokens.specs.declared.Token.{Token as Stored}

@@ -65,6 +65,7 @@ module _ {T : Tables} {finals : List Float} {eps : List ℕ} {places : ℕ} {l :
       first_three (here e) = here e
       first_three (there (here e)) = there (here e)
       first_three (there (there (here e))) = there (there (here e))
+      first_three (there (there (there i))) = elim i [ ]
 
   -- ---- a call hands it on
 
@@ -92,7 +93,7 @@ module _ {T : Tables} {finals : List Float} {eps : List ℕ} {places : ℕ} {l :
   behaves_held H (active_behaves B) = H
   behaves_held H frames_behaves = H
 
-  pub runs_held : {ks : List (Limits × Call)} {ans : List Answer} {m m' : Lent} {d d' : Decoder} → Held T m finals eps places l d → Runs T finals eps places m d ks ans m' d' → Held T m' finals eps places l d'
+  pub runs_held : {m : Lent} {d : Decoder} {ks : List (Limits × Call)} {ans : List Answer} {m' : Lent} {d' : Decoder} → Held T m finals eps places l d → Runs T finals eps places m d ks ans m' d' → Held T m' finals eps places l d'
   runs_held H none_yet = H
   runs_held H (one_more run B) = behaves_held (runs_held H run) B
 

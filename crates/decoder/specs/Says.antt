@@ -11,8 +11,9 @@ use Rattle.model.specs.Calls.{Call, start_call, Said, call, Answer, done_answer,
 use Rattle.copy_laws.specs.Sums.{Floats32}
 use Rattle.copy_laws.specs.Told.{limited_answers, limited_after, tell}
 use Rattle.copy_laws.specs.Claims.{OneTrace, Own, Says, says_alternatives, says_readings}
-use Rattle.copy_laws.specs.Sayings.{asks_finals, words_say, lists_say, best_says}
-use Rattle.copy_laws.specs.Statement.{refusal_numbers, start_refused, decoder_says}
+use Rattle.copy_laws.specs.Sayings.{asks_finals}
+use Rattle.copy_laws.proofs.Sayings.{words_say, lists_say, best_says}
+use Rattle.copy_laws.proofs.Theorems.{refusal_numbers, start_refused, decoder_says}
 use Rattle.stores.specs.Rep.{Lent}
 use Rattle.checks.specs.Fit.{record_places, fit_beam}
 use Rattle.decoder.specs.declared.Decoder.{Decoder}

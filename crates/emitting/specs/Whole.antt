@@ -18,7 +18,7 @@ use Rattle.cutoff.specs.Costs.{config_of, CostIs, vacant_is, token_itself, Costs
 use Rattle.tokens.specs.Layout.{Cell, cell_at, held_at, cost_at, Cleared}
 use Rattle.records.specs.History.{History, tag}
 use Rattle.records.specs.Stands.{Stands}
-use Rattle.copy_laws.specs.Tables.{vacant_none}
+use Rattle.copy_laws.proofs.Tables.{vacant_none}
 use Rattle.stores.specs.Shown.{Shows, shows_none, shows_token, Shown, is_none}
 use Rattle.stores.specs.Tables.{shown_cleared, shown_uncleared}
 use Rattle.stores.specs.Rep.{Lent, lent, store_of, Places}

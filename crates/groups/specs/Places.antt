@@ -9,7 +9,7 @@ use Rattle.lists.specs.Members.{at_member, member_at, any_yes, any_some, map_fro
 use Rattle.lists.specs.Order.{Sorted, sort_perm, sort_sorted, perm-length, perm_member}
 use Rattle.lists.specs.Count.{Nodup}
 use Rattle.lists.specs.Parts.{range_many}
-use Rattle.copy_laws.specs.Minima.{sort_nodup}
+use Rattle.copy_laws.proofs.Minima.{sort_nodup}
 use Rattle.sorting.specs.Pairs.{pairs_of, pair_at, pair_before, pairs_at, Any, before_strict, before_total}
 use Rattle.sorting.specs.Keyed.{pairs_keyed}
 use Rattle.sorting.specs.Moves.{Lent}

@@ -10,7 +10,7 @@ use Rattle.model.specs.Cutoff.{Config as Settings}
 use Rattle.model.specs.Passes.{State, fitted}
 use Rattle.model.specs.Calls.{Call, start_call, frame_call, keep_call, read_call, best_path_read, alternatives_read, readings_read, relative_cost_read, num_active_read, frames_decoded_read, Answer as Said, done_answer, refusal_answer, path_answer, paths_answer, readings_answer, count_answer, cost_answer, refused_read, call}
 use Rattle.copy_laws.specs.Told.{limited_answers}
-use Rattle.copy_laws.specs.Statement.{refusal_not_0}
+use Rattle.copy_laws.proofs.Theorems.{refusal_not_0}
 use Rattle.cutoff.specs.declared.Config.{Config}
 use Rattle.cutoff.specs.Costs.{config_of}
 use Rattle.stores.specs.Rep.{Lent}

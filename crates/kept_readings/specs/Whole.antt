@@ -14,7 +14,7 @@ use Rattle.model.specs.Graph.{Graph}
 use Rattle.model.specs.Path.{Table}
 use Rattle.model.specs.Reads.{Ranked, sooner}
 use Rattle.model.specs.Readings.{below, same_key, Kept, kept_of, kept_below, kept_map}
-use Rattle.copy_laws.specs.Sooner.{HasRank, earlier_strict}
+use Rattle.copy_laws.proofs.Sooner.{HasRank, earlier_strict}
 use Rattle.records.specs.History.{History}
 use Rattle.records.specs.Layout.{store}
 use Rattle.records.specs.Stands.{Stands}

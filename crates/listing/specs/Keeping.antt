@@ -10,8 +10,8 @@ use Rattle.real32.specs.Order.{real_is}
 use Rattle.model.specs.Hash.{hash_words}
 use Rattle.model.specs.Reads.{Ranked, ranked, use_finals}
 use Rattle.model.specs.Readings.{Below, heads, Kept, kept_below, kept_map, kept_group}
-use Rattle.copy_laws.specs.Ranks.{ranked_at_lem}
-use Rattle.copy_laws.specs.Listed.{kept_by_lem}
+use Rattle.copy_laws.proofs.Ranks.{ranked_at_lem}
+use Rattle.copy_laws.proofs.Listed.{kept_by_lem}
 use Rattle.records.specs.History.{History}
 use Rattle.records.specs.Layout.{store}
 use Rattle.records.specs.Stands.{Stands}

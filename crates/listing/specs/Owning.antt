@@ -8,7 +8,7 @@ use Rattle.lists.specs.Firsts.{Apart, firsts_are}
 use Rattle.model.specs.Path.{words_back}
 use Rattle.model.specs.Hash.{hash_words, hash_fits}
 use Rattle.model.specs.Readings.{Below}
-use Rattle.copy_laws.specs.Labels.{words_alike}
+use Rattle.copy_laws.proofs.Labels.{words_alike}
 use Rattle.records.specs.History.{tag}
 use Rattle.joins.specs.Walk.{words_to}
 use Rattle.histories.specs.Reading.{read_words, key_of, KeyIs}

@@ -7,7 +7,7 @@ use Rattle.lists.specs.Members.{map_to}
 use Rattle.model.specs.Basics.{∞}
 use Rattle.model.specs.Reads.{Ranked, ranked, grouped, use_finals}
 use Rattle.model.specs.Readings.{same_head, heads, rank_at}
-use Rattle.copy_laws.specs.Ranks.{ranked_at_lem}
+use Rattle.copy_laws.proofs.Ranks.{ranked_at_lem}
 use Rattle.records.specs.History.{tag}
 use Rattle.histories.specs.Reading.{same_reading}
 use Rattle.histories.specs.Laws.{Falls, Numbered, same_head_lem, stands_falls}

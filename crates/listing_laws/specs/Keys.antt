@@ -14,11 +14,12 @@ use Rattle.model.specs.Reads.{use_finals, sooner, ranked, Group}
 use Rattle.model.specs.Hash.{hash_words}
 use Rattle.model.specs.Readings.{same_key, heads, Kept, kept_of, kept_below, kept_map, kept_group}
 use Rattle.copy_laws.specs.Walks.{Heard}
-use Rattle.copy_laws.specs.Routes.{trace_words}
+use Rattle.copy_laws.proofs.Routes.{trace_words}
 use Rattle.copy_laws.specs.States.{Standing}
-use Rattle.copy_laws.specs.Ranks.{ranked_at_lem}
-use Rattle.copy_laws.specs.Listed.{kept_by_lem}
-use Rattle.copy_laws.specs.Below.{words_back_along, Keyed, below_keyed}
+use Rattle.copy_laws.proofs.Ranks.{ranked_at_lem}
+use Rattle.copy_laws.proofs.Listed.{kept_by_lem}
+use Rattle.copy_laws.specs.Below.{words_back_along, Keyed}
+use Rattle.copy_laws.proofs.Below.{below_keyed}
 use Rattle.copy_laws.specs.Distinct.{group_words}
 use Rattle.listing_laws.specs.Alike.{apart_names}
 use Rattle.listing_laws.specs.Known.{kept_read_in, kept_groups}

@@ -14,12 +14,15 @@ use Rattle.model.specs.Readings.{Below, below, heads, Kept, kept_of, kept_map, k
 use Rattle.model.specs.Checked.{GoodGraph}
 use Rattle.copy_laws.specs.Walks.{Heard}
 use Rattle.copy_laws.specs.Sums.{Floats32}
-use Rattle.copy_laws.specs.Shapes.{differences}
+use Rattle.copy_laws.proofs.Shapes.{differences}
 use Rattle.copy_laws.specs.States.{Standing}
-use Rattle.copy_laws.specs.Ranks.{sure_finite, ranked_at_lem, ranked_sure}
-use Rattle.copy_laws.specs.Listed.{KeptBy, grouped_own, kept_by_lem}
-use Rattle.copy_laws.specs.Bounds.{Few, below_bounded}
-use Rattle.copy_laws.specs.Costs.{SureReading, kept_sure, own_sure, fair_margin_lem}
+use Rattle.copy_laws.proofs.Ranks.{sure_finite, ranked_at_lem, ranked_sure}
+use Rattle.copy_laws.specs.Listed.{KeptBy}
+use Rattle.copy_laws.proofs.Listed.{grouped_own, kept_by_lem}
+use Rattle.copy_laws.specs.Bounds.{Few}
+use Rattle.copy_laws.proofs.Bounds.{below_bounded}
+use Rattle.copy_laws.specs.Costs.{SureReading}
+use Rattle.copy_laws.proofs.Costs.{kept_sure, own_sure, fair_margin_lem}
 use Rattle.listing_laws.specs.Ordering.{HasRank}
 
 -- the kept map of a state

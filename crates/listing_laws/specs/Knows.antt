@@ -13,11 +13,13 @@ use Rattle.model.specs.Path.{Path, empty_path, arc_onto, branch_on, Token}
 use Rattle.model.specs.Reads.{Ranked, rank_one, ranked, use_finals}
 use Rattle.model.specs.Readings.{Below, below, heads, kept_of, kept_below}
 use Rattle.copy_laws.specs.Walks.{Heard}
-use Rattle.copy_laws.specs.Tables.{At, at_length}
-use Rattle.copy_laws.specs.Shapes.{Forks, Differences, differences}
-use Rattle.copy_laws.specs.Ranks.{ranked_at_lem}
-use Rattle.copy_laws.specs.Listed.{kept_by_lem}
-use Rattle.copy_laws.specs.Costs.{fair_margin_lem}
+use Rattle.copy_laws.specs.Tables.{At}
+use Rattle.copy_laws.proofs.Tables.{at_length}
+use Rattle.copy_laws.specs.Shapes.{Forks, Differences}
+use Rattle.copy_laws.proofs.Shapes.{differences}
+use Rattle.copy_laws.proofs.Ranks.{ranked_at_lem}
+use Rattle.copy_laws.proofs.Listed.{kept_by_lem}
+use Rattle.copy_laws.proofs.Costs.{fair_margin_lem}
 use Rattle.stores.specs.Shown.{Is, Shows, shows_token}
 use Rattle.histories.specs.Laws.{Numbered}
 use Rattle.stores.specs.Tables.{active_at}

@@ -11,7 +11,8 @@ use Rattle.lists.specs.Members.{any_no, any_some, keep_from, keep_passes, keep_t
 use Rattle.lists.specs.Order.{Sorted, Strict, sort_sorted, sort_to}
 use Rattle.lists.specs.Firsts.{firsts_are}
 use Rattle.lists.specs.Count.{Nodup}
-use Rattle.copy_laws.specs.Minima.{sort_nodup, sublist_sorted, sorted_same, nodup_map, same_keyed, apart_nodup, first_least}
+use Rattle.copy_laws.proofs.Minima.{first_least}
+use Rattle.copy_laws.proofs.Minima.{sort_nodup, sublist_sorted, sorted_same, nodup_map, same_keyed, apart_nodup}
 use Rattle.listing_laws.specs.Alike.{nodup_keep, nodup_append, one_of}
 
 module _ {A K : Type 0} (key : A → K) (alike : K → K → Bool) (alike_is : (j k : K) → alike j k ≡ true → j ≡ k) (alike_refl : (j k : K) → j ≡ k → alike j k ≡ true) (before : A → A → Bool) where

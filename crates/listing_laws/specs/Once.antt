@@ -13,7 +13,7 @@ use Rattle.model.specs.Basics.{◌≺◌, ◌≼◌, 0f, nonzero, unsigned}
 use Rattle.model.specs.Path.{Path, empty_path, arc_onto, branch_on, word}
 use Rattle.model.specs.Hash.{hash_base, hash_word}
 use Rattle.model.specs.Readings.{Below, on_top, by_way, same_key, cheapest, below}
-use Rattle.copy_laws.specs.Below.{below_each}
+use Rattle.copy_laws.proofs.Below.{below_each}
 use Rattle.listing_laws.specs.Alike.{apart_one}
 
 -- ---- one word more

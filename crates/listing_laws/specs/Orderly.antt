@@ -11,8 +11,9 @@ use Rattle.model.specs.Checked.{GoodGraph}
 use Rattle.copy_laws.specs.Walks.{Heard}
 use Rattle.copy_laws.specs.Sums.{Floats32}
 use Rattle.copy_laws.specs.Active.{Active}
-use Rattle.copy_laws.specs.Sooner.{one_seq, one_entry}
-use Rattle.copy_laws.specs.Listed.{KeptBy, kept_heads}
+use Rattle.copy_laws.proofs.Sooner.{one_seq, one_entry}
+use Rattle.copy_laws.specs.Listed.{KeptBy}
+use Rattle.copy_laws.proofs.Listed.{kept_heads}
 use Rattle.kept_readings.specs.Meaning.{kept_within}
 use Rattle.kept_readings.specs.Whole.{same_words_kept, sooner_of_kept, kept_rank, kept_seq, Orderly}
 use Rattle.listing_laws.specs.Known.{kept_key}

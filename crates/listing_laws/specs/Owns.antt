@@ -10,7 +10,7 @@ use Rattle.lists.specs.Tests.{same, holds, is_true}
 use Rattle.lists.specs.Members.{firsts_from}
 use Rattle.model.specs.Path.{words_back, same_words}
 use Rattle.model.specs.Reads.{Ranked, rank_one, rank_from, sooner, Group, own_group, ranked, grouped, use_finals}
-use Rattle.copy_laws.specs.Labels.{words_alike, words_same}
+use Rattle.copy_laws.proofs.Labels.{words_alike, words_same}
 use Rattle.tokens.specs.Layout.{cell_at}
 use Rattle.tokens.specs.declared.Token.{Token as Stored}
 use Rattle.records.specs.History.{History}

@@ -12,10 +12,11 @@ use Rattle.model.specs.Path.{same_words}
 use Rattle.model.specs.Passes.{State}
 use Rattle.model.specs.Reads.{Group, grouped}
 use Rattle.model.specs.Readings.{Kept, kept_group, read_order, merged, is_own}
-use Rattle.copy_laws.specs.Labels.{words_alike, words_same}
+use Rattle.copy_laws.proofs.Labels.{words_alike, words_same}
 use Rattle.copy_laws.specs.Walks.{Heard}
-use Rattle.copy_laws.specs.Folded.{perm-map, perm_nodup}
-use Rattle.copy_laws.specs.Distinct.{group_words, grouped_distinct}
+use Rattle.copy_laws.proofs.Folded.{perm-map, perm_nodup}
+use Rattle.copy_laws.specs.Distinct.{group_words}
+use Rattle.copy_laws.proofs.Distinct.{grouped_distinct}
 use Rattle.listing_laws.specs.Merged.{unbeaten, apart_from, merged_is}
 use Rattle.listing_laws.specs.Ordering.{HasRank, order_strict}
 use Rattle.listing_laws.specs.Known.{kept_read_in, kept_groups, Known, own_is_own, kept_not_own, listed_has_rank}

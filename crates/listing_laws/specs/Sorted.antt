@@ -6,7 +6,7 @@ use Rattle.lists.specs.Lists.{◌∈◌, range}
 use Rattle.lists.specs.Members.{map_to}
 use Rattle.lists.specs.Order.{Perm, perm_sym, perm_then, perm_member, Sorted}
 use Rattle.model.specs.Readings.{Below, Kept, kept_group, is_own, read_order}
-use Rattle.copy_laws.specs.Folded.{perm-map}
+use Rattle.copy_laws.proofs.Folded.{perm-map}
 use Rattle.below.specs.Stored.{Decoded}
 use Rattle.kept_readings.specs.declared.KeptReading.{KeptReading}
 use Rattle.kept_readings.specs.Kept.{kept_read_in, kept_list}

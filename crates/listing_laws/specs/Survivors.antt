@@ -21,9 +21,9 @@ use Rattle.model.specs.Checked.{GoodGraph}
 use Rattle.copy_laws.specs.Walks.{Heard}
 use Rattle.copy_laws.specs.Sums.{Floats32}
 use Rattle.copy_laws.specs.Active.{Active}
-use Rattle.copy_laws.specs.Minima.{not_itself, sublist_sorted}
-use Rattle.copy_laws.specs.Sooner.{has_rank, one_entry, ranked_sorted}
-use Rattle.copy_laws.specs.Distinct.{same_of}
+use Rattle.copy_laws.proofs.Minima.{not_itself, sublist_sorted}
+use Rattle.copy_laws.proofs.Sooner.{has_rank, one_entry, ranked_sorted}
+use Rattle.copy_laws.proofs.Distinct.{same_of}
 use Rattle.listing_laws.specs.Alike.{sorted-map}
 use Rattle.listing_laws.specs.Ordering.{HasRank, order_strict}
 use Rattle.listing_laws.specs.Known.{kept_read_in, kept_groups, Known, own_is_own, kept_not_own, own_has_rank, listed_has_rank}

@@ -11,8 +11,8 @@ use Rattle.model.specs.Passes.{State}
 use Rattle.model.specs.Reads.{Group, grouped}
 use Rattle.model.specs.Readings.{Kept, kept_group, read_order, merged}
 use Rattle.copy_laws.specs.Walks.{Heard}
-use Rattle.copy_laws.specs.Folded.{perm-map}
-use Rattle.copy_laws.specs.Distinct.{same_of, grouped_distinct}
+use Rattle.copy_laws.proofs.Folded.{perm-map}
+use Rattle.copy_laws.proofs.Distinct.{same_of, grouped_distinct}
 use Rattle.listing_laws.specs.Alike.{one_of}
 use Rattle.listing_laws.specs.Ordering.{HasRank, order_strict, order_level}
 use Rattle.listing_laws.specs.Known.{kept_read_in, kept_groups, Known, own_is_own, kept_not_own, listed_has_rank}

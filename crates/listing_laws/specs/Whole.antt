@@ -11,7 +11,7 @@ use Rattle.model.specs.Basics.{◌≺◌}
 use Rattle.model.specs.Path.{same_words}
 use Rattle.model.specs.Reads.{Group, grouped, use_finals}
 use Rattle.model.specs.Readings.{Below, Kept, kept_group, read_order, merged}
-use Rattle.copy_laws.specs.Labels.{words_alike, words_same}
+use Rattle.copy_laws.proofs.Labels.{words_alike, words_same}
 use Rattle.ranking.specs.Ranked.{RankedIs}
 use Rattle.groups.specs.Firsts.{FirstsIs}
 use Rattle.below.specs.Stored.{Decoded}

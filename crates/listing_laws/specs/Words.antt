@@ -13,8 +13,9 @@ use Rattle.model.specs.Path.{Path, Token}
 use Rattle.model.specs.Hash.{hash_words}
 use Rattle.model.specs.Reads.{Ranked, trace}
 use Rattle.model.specs.Readings.{Below, below, Kept, kept_of, kept_group, words_lt, is_own, read_order}
-use Rattle.copy_laws.specs.Routes.{trace_words, own_words_lem}
-use Rattle.copy_laws.specs.Below.{words_back_along, Keyed, below_keyed}
+use Rattle.copy_laws.proofs.Routes.{trace_words, own_words_lem}
+use Rattle.copy_laws.specs.Below.{words_back_along, Keyed}
+use Rattle.copy_laws.proofs.Below.{below_keyed}
 use Rattle.copy_laws.specs.Shapes.{Falling}
 use Rattle.groups.specs.Firsts.{link_at}
 use Rattle.below.specs.Stored.{stands_for, Decoded}

@@ -11,7 +11,8 @@ use Rattle.model.specs.Arrive.{Here, Work as ModelWork}
 use Rattle.model.specs.Passes.{popped, expand}
 use Rattle.model.specs.Accepted.{Ok}
 use Rattle.copy_laws.specs.Spending.{Fits, left}
-use Rattle.copy_laws.specs.Ends.{Loops, loop_ends, loop_refused, loop_turns, Going as Lasts, turn_goes}
+use Rattle.copy_laws.specs.Ends.{Loops, loop_ends, loop_refused, loop_turns}
+use Rattle.copy_laws.proofs.Ends.{Going as Lasts, turn_goes}
 use Rattle.stores.specs.Rep.{Lent}
 use Rattle.arrivals.specs.declared.Setting.{Setting}
 use Rattle.arcs.specs.declared.Pass.TheVariants.{Nonemitting}

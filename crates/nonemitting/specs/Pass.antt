@@ -11,10 +11,12 @@ use Rattle.model.specs.Passes.{drain, fuel, nonemitting_pass}
 use Rattle.model.specs.Accepted.{Ok}
 use Rattle.tokens.specs.Layout.{Cell, cell_at, place_in}
 use Rattle.records.specs.History.{History}
-use Rattle.copy_laws.specs.Tables.{at_length, none≢some, some_same}
-use Rattle.copy_laws.specs.Begun.{Starts, push_starts}
+use Rattle.copy_laws.proofs.Tables.{at_length, none≢some, some_same}
+use Rattle.copy_laws.specs.Begun.{Starts}
+use Rattle.copy_laws.proofs.Begun.{push_starts}
 use Rattle.copy_laws.specs.Spending.{Fits}
-use Rattle.copy_laws.specs.Ends.{Emptied, Runs, runs_empty, pass_runs}
+use Rattle.copy_laws.specs.Ends.{Emptied, Runs}
+use Rattle.copy_laws.proofs.Ends.{runs_empty, pass_runs}
 use Rattle.stores.specs.Shown.{Shows, shows_token, Shown}
 use Rattle.stores.specs.Rep.{Lent}
 use Rattle.arrivals.specs.declared.Setting.{Setting}

@@ -26,10 +26,13 @@ below p zero = []
 below p (suc s) = below p s ++ cond (p s) (s ∷ []) []
 
 one_from : (b : Bool) (i s : ℕ) → i ∈ cond b (s ∷ []) [] → (i ≡ s) × (b ≡ true)
+one_from false i s x' = elim x' [ ]
+one_from true i s (there x6) = elim x6 [ ]
 one_from true i s (here e) = (e, refl)
 
 module _ (p : ℕ → Bool) where
   pub below_from : (s i : ℕ) → i ∈ below p s → (i < s) × (p i ≡ true)
+  below_from zero i m = elim m [ ]
   below_from (suc s) i m =
       case (Memᴰ.append_cases (below p s) m) (λ k. let (l, e) = below_from s i k in (omega arith, e)) (λ k. let (q, e) = one_from (p s) i s k in (omega arith, ap p q ∙ e))
 

@@ -14,9 +14,9 @@ use Rattle.model.specs.Path.{Token as Model}
 use Rattle.model.specs.Reads.{Rec, Traced as Told, recs_on, word_recs, trace, rank_one, Group}
 use Rattle.model.specs.Readings.{Below, kept_group, readings}
 use Rattle.model.specs.Calls.{reading_of}
-use Rattle.copy_laws.specs.Routes.{trace_words, own_words_lem}
-use Rattle.copy_laws.specs.Ranks.{sure_finite}
-use Rattle.copy_laws.specs.Costs.{readings_sure}
+use Rattle.copy_laws.proofs.Routes.{trace_words, own_words_lem}
+use Rattle.copy_laws.proofs.Ranks.{sure_finite}
+use Rattle.copy_laws.proofs.Costs.{readings_sure}
 use Rattle.tokens.specs.declared.Token.{Token}
 use Rattle.tokens.specs.Layout.{cell_at, token_of, place_in}
 use Rattle.stores.specs.Shown.{Is, TokenIs}

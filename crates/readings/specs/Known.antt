@@ -14,7 +14,8 @@ use Rattle.model.specs.Checked.{GoodGraph}
 use Rattle.copy_laws.specs.Walks.{Heard}
 use Rattle.copy_laws.specs.Sums.{Floats32}
 use Rattle.copy_laws.specs.Active.{Active}
-use Rattle.copy_laws.specs.Ranks.{end_weight, sure_at, sure_finite}
+use Rattle.copy_laws.specs.Ranks.{end_weight}
+use Rattle.copy_laws.proofs.Ranks.{sure_at, sure_finite}
 use Rattle.tokens.specs.declared.Token.{Token as Stored}
 use Rattle.tokens.specs.Layout.{held_at, place_in}
 use Rattle.records.specs.History.{History}

@@ -1,13 +1,11 @@
 -- Those below i are tame.
-use mathlib.Core.Path.{refl, sym, ap, ◌∙◌}
-use Prim.Native.Nat.{◌+◌, ◌-◌}
+use mathlib.Core.Path.{sym, ap, ◌∙◌}
+use Prim.Native.Nat.{◌+◌}
 use native.Mathlib.Omega.{arith}
 use mathlib.Core.Bool.{Bool, ◌&&◌}
-use lib.ListN.{length, drop, drop_of_length-le}
+use lib.ListN.{drop, drop_of_length-le}
 use lib.Ieee.{nan}
-use borrow.Author.Tests.{not-true, not-false}
 use Rattle.lists.specs.Lists.{all}
-use Rattle.lists.specs.Tests.{next_fits}
 use Rattle.real32.specs.Small.{tame}
 use Rattle.checks.specs.Frame.{all_next}
 use Rattle.checks.proofs.all_tame.Goals as goal

@@ -1,7 +1,6 @@
 -- No margin is fair.
 use mathlib.Core.Path.{sym, ap, ◌∙◌}
 use mathlib.Core.Bool.{Bool, not}
-use borrow.Author.Tests.{not-true, not-false}
 use Rattle.model.specs.Passes.{fair_margin}
 use Rattle.checks.specs.Margin.{asked}
 use Rattle.checks.proofs.margin_wrong.Goals as goal

@@ -11,9 +11,3 @@ loop-k-init c = (omega arith, refl, cleared_none _)
 
 pub loop-k-preserved : goal.loop-k-preserved
 loop-k-preserved c = (omega arith, simp length-set c.loop-k.invariant.1, cleared_more _ _ _ (omega arith) c.loop-k.invariant.2)
-
-pub shape_of-records : goal.shape_of-records
-shape_of-records c = c.loop-k.invariant.1
-
-pub returns : goal.returns
-returns c = let e : c.loop-k.k ≡ c.args.used = omega arith in rw e at c.loop-k.invariant.2

@@ -9,12 +9,6 @@ slide-left-requires c =
     let m = c.mark_live in
     (marked_shape _ c.args.tokens.now m.new.records _ _ _ c.requires m.ensures m.auto.records, c.requires.few)
 
-pub renumber-requires : goal.renumber-requires
-renumber-requires c =
-    let m = c.mark_live in
-    let d = c.slide-left in
-    (c.requires.room, λ p l. omega (arith, c.requires.held p l, c.requires.shape.room.records, d.auto.records, m.auto.records))
-
 pub returns : goal.returns
 returns c =
     let a = c.args in

@@ -8,9 +8,6 @@ use Rattle.compaction.proofs.Marking.{held_none, held_skip, held_more}
 use Rattle.compaction.proofs.mark_held.Goals.{then-has_token, else-has_token}
 use Rattle.compaction.proofs.mark_held.Goals as goal
 
-pub loop-p-init : goal.loop-p-init
-loop-p-init c = (omega arith, refl, held_none c.args.tokens.now _)
-
 pub mark-requires : goal.mark-requires
 mark-requires c = let p = c.loop-p.p in
     let e = held_is c.args.tokens.now p (some_held _ (sym c.has_token.ensures ∙ c.if-has_token.true)) in
@@ -20,12 +17,9 @@ pub loop-p-preserved : goal.loop-p-preserved
 loop-p-preserved c = let l = c.loop-p in
     let tk = c.args.tokens.now in
     elim c.if-has_token.branch [
-    | then-has_token w ↦
-      let e = held_is tk l.p (some_held _ (sym c.has_token.ensures ∙ w.if-has_token.true)) in
-      (omega arith, c.if-has_token.auto.records ∙ l.invariant.1, rw w.records-is (held_more tk _ _ _ l.invariant.2 (get_or tk (l.p * 4) 0) _ e w.mark.ensures))
-    | else-has_token w ↦
-      (omega arith, rw w.records-is l.invariant.1, rw w.records-is (held_skip tk _ _ _ l.invariant.2 (none_held _ (sym c.has_token.ensures ∙ w.if-has_token.false))))
+      | then-has_token w ↦
+          let e = held_is tk l.p (some_held _ (sym c.has_token.ensures ∙ w.if-has_token.true)) in
+          (omega arith, c.if-has_token.auto.records ∙ l.invariant.1, rw w.records-is (held_more tk _ _ _ l.invariant.2 (get_or tk (l.p * 4) 0) _ e w.mark.ensures))
+      | else-has_token w ↦
+          (omega arith, rw w.records-is l.invariant.1, rw w.records-is (held_skip tk _ _ _ l.invariant.2 (none_held _ (sym c.has_token.ensures ∙ w.if-has_token.false))))
     ]
-
-pub returns : goal.returns
-returns c = let e : c.loop-p.p ≡ c.args.places = omega arith in rw e at c.loop-p.invariant.2

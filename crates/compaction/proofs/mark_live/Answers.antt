@@ -3,10 +3,6 @@ use Rattle.compaction.proofs.Marking.{same_prev, same_kept_lem, live_marked}
 use native.Mathlib.Omega.{arith}
 use Rattle.compaction.proofs.mark_live.Goals as goal
 
-pub mark_held-requires : goal.mark_held-requires
-mark_held-requires c =
-    (c.requires.tokens, λ p l. omega (arith, c.requires.held p l, c.requires.room, c.clear_marks.auto.records))
-
 pub spread-requires : goal.spread-requires
 spread-requires c =
     let m = c.mark in

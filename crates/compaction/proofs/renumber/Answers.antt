@@ -8,9 +8,6 @@ use Rattle.compaction.proofs.Compacting.{renumbered_none, renumbered_skip, renum
 use Rattle.compaction.proofs.renumber.Goals.{then-has_token, else-has_token}
 use Rattle.compaction.proofs.renumber.Goals as goal
 
-pub loop-place-init : goal.loop-place-init
-loop-place-init c = (omega arith, refl, renumbered_none c.args.records.now _)
-
 pub new_number-requires : goal.new_number-requires
 new_number-requires c = let l = c.loop-place in
     let e = held_is l.tokens l.place (some_held _ (sym c.has_token.ensures ∙ c.if-has_token.true)) in
@@ -20,12 +17,9 @@ pub loop-place-preserved : goal.loop-place-preserved
 loop-place-preserved c = let l = c.loop-place in
     let rs = c.args.records.now in
     elim c.if-has_token.branch [
-    | then-has_token w ↦
-      let e = held_is l.tokens l.place (some_held _ (sym c.has_token.ensures ∙ w.if-has_token.true)) in
-      (omega arith, c.if-has_token.auto.tokens ∙ l.invariant.1, rw w.tokens-is (renumbered_more rs _ l.tokens l.place l.invariant.2 w.new_number.result (omega arith) (get_or l.tokens (l.place * 4) 0) e w.new_number.ensures))
-    | else-has_token w ↦
-      (omega arith, c.if-has_token.auto.tokens ∙ l.invariant.1, rw w.tokens-is (renumbered_skip rs _ _ _ l.invariant.2 (none_held _ (sym c.has_token.ensures ∙ w.if-has_token.false))))
+      | then-has_token w ↦
+          let e = held_is l.tokens l.place (some_held _ (sym c.has_token.ensures ∙ w.if-has_token.true)) in
+          (omega arith, c.if-has_token.auto.tokens ∙ l.invariant.1, rw w.tokens-is (renumbered_more rs _ l.tokens l.place l.invariant.2 w.new_number.result (omega arith) (get_or l.tokens (l.place * 4) 0) e w.new_number.ensures))
+      | else-has_token w ↦
+          (omega arith, c.if-has_token.auto.tokens ∙ l.invariant.1, rw w.tokens-is (renumbered_skip rs _ _ _ l.invariant.2 (none_held _ (sym c.has_token.ensures ∙ w.if-has_token.false))))
     ]
-
-pub returns : goal.returns
-returns c = let e : c.loop-place.place ≡ c.args.places = omega arith in rw e at c.loop-place.invariant.2

@@ -6,21 +6,6 @@ use Rattle.compaction.proofs.Slides.{one_stays, one_moves}
 use native.Mathlib.Omega.{arith}
 use Rattle.compaction.proofs.slide_one.Goals as goal
 
-pub returns-then-new_number-eq0 : goal.returns-then-new_number-eq0
-returns-then-new_number-eq0 c =
-    let a = c.args in
-    one_stays (store a.records.now a.labels.now a.gaps.now) a.k a.n c.requires.n_le_k.0 (sym c.new_number.ensures ∙ c.if-new_number-eq0.true)
-
-pub new_number-new_prev-requires : goal.new_number-new_prev-requires
-new_number-new_prev-requires c =
-    let e : c.args.k + 1 - 1 ≡ c.args.k = omega arith in
-    omega (arith, ap (prev_at c.args.records.now) e, c.prev_of-prev.ensures, c.requires.n_le_k.2)
-
-pub new_number-new_kept-requires : goal.new_number-new_kept-requires
-new_number-new_kept-requires c =
-    let e : c.args.k + 1 - 1 ≡ c.args.k = omega arith in
-    omega (arith, ap (kept_at c.args.records.now) e, c.kept_of-kept.ensures, c.requires.n_le_k.3)
-
 pub returns : goal.returns
 returns c =
     let a = c.args in

@@ -1,9 +1,9 @@
 -- `decimals::numbers_in` meets its contract: the numbers of all bytes are those of the bytes not yet passed, after those found.
 use mathlib.Core.Path.{◌≡◌, refl, sym, ◌∙◌}
-use Prim.Native.Nat.{◌<◌, ◌-◌}
+use Prim.Native.Nat.{◌<◌}
 use native.Mathlib.Omega.{arith}
 use borrow.Author.Rules.{rules}
-use lib.ListN.{length, drop}
+use lib.ListN.{length}
 use lib.Seq.{drop-length}
 use Rattle.lists.specs.Members.{drop_next}
 use Rattle.decimals.specs.Numbers.{numbers_from}

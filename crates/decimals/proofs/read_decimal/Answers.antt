@@ -1,7 +1,7 @@
 -- `decimals::read_decimal` meets its contract: the bytes are compared with the digits of the number that stands in them.
 use mathlib.Core.Path.{◌≡◌, refl, sym, ap, ◌∙◌}
 use native.Mathlib.Omega.{arith}
-use lib.ListN.{take, length-take}
+use lib.ListN.{length-take}
 use Rattle.lists.specs.Tests.{never}
 use Rattle.decimals.specs.declared.Numbers.{Numbers}
 use Rattle.decimals.specs.Numbers.{numbers_in, none}

@@ -7,7 +7,7 @@ pub overflow_sub-side : goal.overflow_sub-side
 overflow_sub-side c = let z = c.requires.left.left.is.fixed.side in omega arith
 
 pub readings-requires : goal.readings-requires
-readings-requires c = let p = c.requires in readings_asks p.left _ _ _ _ _ _ _ _ _ _ _ p.wide p.wide-records p.wide-kept
+readings-requires c = let p = c.requires in readings_asks p.left _ _ _ _ _ _ _ _ _ _ _ p.wide p.wide_records p.wide_kept
 
 pub returns : goal.returns
 returns c = record { answer = λ F. readings_is F _ _ _ _ _ _ _ _ c.readings.ensures.0; work = c.readings.ensures.1 }

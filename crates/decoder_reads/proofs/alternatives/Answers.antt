@@ -7,7 +7,7 @@ pub overflow_sub-finished : goal.overflow_sub-finished
 overflow_sub-finished c = let z = c.requires.left.left.is.fixed.side in omega arith
 
 pub alternatives-requires : goal.alternatives-requires
-alternatives-requires c = let h = histories_wide c.requires.left.left _ _ c.requires.wide-records in (alternatives_asks c.requires.left.left _ c.requires.left.finals-are _ _ _ c.requires.wide, h.0, h.1)
+alternatives-requires c = let h = histories_wide c.requires.left.left _ _ c.requires.wide_records in (alternatives_asks c.requires.left.left _ c.requires.left.finals_are _ _ _ c.requires.wide, h.0, h.1)
 
 pub returns : goal.returns
-returns c = record { answer = λ F. alternatives_is F.left _ F.finals-are _ _ _ _ _ c.alternatives.ensures.0; work = c.alternatives.ensures.1 }
+returns c = record { answer = λ F. alternatives_is F.left _ F.finals_are _ _ _ _ _ c.alternatives.ensures.0; work = c.alternatives.ensures.1 }

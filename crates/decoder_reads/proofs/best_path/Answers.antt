@@ -7,7 +7,7 @@ pub overflow_sub-decoder : goal.overflow_sub-decoder
 overflow_sub-decoder c = let z = c.requires.left.is.fixed.side in omega arith
 
 pub best_path-requires : goal.best_path-requires
-best_path-requires c = best_asks c.requires.left _ c.requires.finals-are
+best_path-requires c = best_asks c.requires.left _ c.requires.finals_are
 
 pub returns : goal.returns
-returns c = λ F. best_is F.left _ F.finals-are _ _ _ _ c.best_path.ensures
+returns c = λ F. best_is F.left _ F.finals_are _ _ _ _ c.best_path.ensures

@@ -7,7 +7,7 @@ pub overflow_sub-decoder : goal.overflow_sub-decoder
 overflow_sub-decoder c = let z = c.requires.left.left.is.fixed.side in omega arith
 
 pub final_relative_cost-requires : goal.final_relative_cost-requires
-final_relative_cost-requires c = let z = read_asks c.requires.left.left in (z.0, z.1, z.2, finals_long c.requires.left.left _ c.requires.left.finals-are)
+final_relative_cost-requires c = let z = read_asks c.requires.left.left in (z.0, z.1, z.2, finals_long c.requires.left.left _ c.requires.left.finals_are)
 
 pub returns : goal.returns
-returns c = λ rs ls F. relative_is F.left _ F.finals-are _ c.final_relative_cost.ensures
+returns c = λ rs ls F. relative_is F.left _ F.finals_are _ c.final_relative_cost.ensures

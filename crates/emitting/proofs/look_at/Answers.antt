@@ -24,10 +24,10 @@ loglike-requires c = c.requires.0.heard _ c.requires.1 (sym c.takes.ensures ∙ 
 
 pub returns-then-not-is_tame : goal.returns-then-not-is_tame
 returns-then-not-is_tame c = let sums_are : get_or c.args.weights.now c.args.i nan ⊕ c.args.offset ⊖ c.loglike.result ⊕ c.args.cost ≡ look_total c.args.ilabels.now c.args.weights.now c.args.tid2pdf.now c.args.loglikes.now c.args.offset c.args.adaptive c.args.cost c.args.i =
-        ap₂ (λ (w l : Float). w ⊕ c.args.offset ⊖ l ⊕ c.args.cost) (get_d_any c.args.weights.now c.args.i nan 0f (let e = c.requires.0.weights in let l = c.requires.1 in omega arith)) c.loglike.ensures in
+    ap₂ (λ (w l : Float). w ⊕ c.args.offset ⊖ l ⊕ c.args.cost) (get_d_any c.args.weights.now c.args.i nan 0f (let e = c.requires.0.weights in let l = c.requires.1 in omega arith)) c.loglike.ensures in
     look_refuses c.args.ilabels.now c.args.weights.now c.args.tid2pdf.now c.args.loglikes.now c.args.offset c.args.adaptive c.args.cost c.args.i c.args.next (sym c.takes.ensures ∙ c.if-not-takes.false) _ sums_are (sym c.is_tame.ensures ∙ c.if-not-is_tame.true)
 
 pub returns : goal.returns
 returns c = let sums_are : get_or c.args.weights.now c.args.i nan ⊕ c.args.offset ⊖ c.loglike.result ⊕ c.args.cost ≡ look_total c.args.ilabels.now c.args.weights.now c.args.tid2pdf.now c.args.loglikes.now c.args.offset c.args.adaptive c.args.cost c.args.i =
-        ap₂ (λ (w l : Float). w ⊕ c.args.offset ⊖ l ⊕ c.args.cost) (get_d_any c.args.weights.now c.args.i nan 0f (let e = c.requires.0.weights in let l = c.requires.1 in omega arith)) c.loglike.ensures in
+    ap₂ (λ (w l : Float). w ⊕ c.args.offset ⊖ l ⊕ c.args.cost) (get_d_any c.args.weights.now c.args.i nan 0f (let e = c.requires.0.weights in let l = c.requires.1 in omega arith)) c.loglike.ensures in
     look_lowers c.args.ilabels.now c.args.weights.now c.args.tid2pdf.now c.args.loglikes.now c.args.offset c.args.adaptive c.args.cost c.args.i c.args.next (sym c.takes.ensures ∙ c.if-not-takes.false) _ sums_are (sym c.is_tame.ensures ∙ c.if-not-is_tame.false) _ c.lower.ensures

@@ -2,13 +2,11 @@
 use mathlib.Core.Path.{◌≡◌}
 use Prim.Native.Nat.{◌≤◌, ◌-◌}
 use lib.ListN.{length, drop}
-use mir.Syntax.{w32}
-use mir.Val.{to_z}
 use Rattle.model.specs.Search.{contains}
 use Rattle.reading_search.proofs.has_word.Given as goal
 
 abbrev pub invariant-loop-i : goal.invariant-loop-i
-invariant-loop-i l = (l.i ≤ length l.reading) × (contains (to_z w32 l.word) l.reading ≡ contains (to_z w32 l.word) (drop l.i l.reading))
+invariant-loop-i l = (l.i ≤ length l.reading) × (contains l.word l.reading ≡ contains l.word (drop l.i l.reading))
 
 abbrev pub decreases-loop-i : goal.decreases-loop-i
 decreases-loop-i l = length l.reading - l.i

@@ -1,11 +1,11 @@
 -- `refusal_lines::put` meets its contract: after i turns the first i bytes are in place.
 use mathlib.Core.Path.{◌≡◌, refl, sym, ap, ◌∙◌}
-use Prim.Native.Nat.{◌-◌, ◌<◌}
+use Prim.Native.Nat.{◌<◌}
 use native.Mathlib.Omega.{arith}
 use native.Mathlib.Numerals.{add-one}
 use mathlib.Core.List.{[], ◌∷◌}
 use lib.ListN.{length, take, get_or}
-use lib.Seq.{sets, length-sets, take-suc, take-length, length-take-le}
+use lib.Seq.{length-sets, take-suc, take-length, length-take-le}
 use Rattle.lists.specs.Parts.{sets_append}
 use Rattle.refusal_lines.proofs.put.Goals as goal
 

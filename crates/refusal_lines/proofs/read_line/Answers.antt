@@ -1,12 +1,12 @@
 -- `refusal_lines::read_line` meets its contract: the bytes are compared with the line of the one refusal that has their numbers.
-use mathlib.Core.Path.{◌≡◌, sym, ap, subst, ◌∙◌}
+use mathlib.Core.Path.{sym, ap, subst, ◌∙◌}
 use native.Mathlib.Omega.{arith}
-use lib.ListN.{length, take, length-take}
+use lib.ListN.{length, length-take}
 use Rattle.lists.specs.Tests.{never}
 use Rattle.decimals.specs.Stored.{stored_front}
 use Rattle.refusals.specs.declared.Refusal.{Refusal}
 use Rattle.refusal_lines.specs.Line.{line_of}
-use Rattle.refusal_lines.specs.Answer.{Fits, IsRefusal}
+use Rattle.refusal_lines.specs.Answer.{Fits}
 use Rattle.refusal_lines.specs.Laws.{line-length, only_refusal, refusal_fits, line_not_empty, line_placed}
 use Rattle.refusal_lines.proofs.read_line.Goals as goal
 

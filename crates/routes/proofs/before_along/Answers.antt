@@ -1,4 +1,5 @@
 -- What the words passed say of the order, and the words from the cursors down, as many of one as of the other.
+use borrow.Author.Rules.{rules}
 use mathlib.Core.Path.{refl, sym, ◌∙◌}
 use native.Mathlib.Omega.{arith}
 use Rattle.model.specs.Ints.{nonzero_yes, nonzero_no, back}
@@ -17,7 +18,7 @@ next_on-y-requires c = (c.requires.0, c.loop-x.invariant.1)
 
 pub returns-then-v-eq0 : goal.returns-then-v-eq0
 returns-then-v-eq0 c = let x = c.next_on-x in
-    before_ended x.ensures c.next_on-y.ensures (nonzero_no x.result.word (record { sfits = c.struct_told-1.given.0.1 }) c.if-v-eq0.true) c.loop-x.before ∙ sym c.loop-x.invariant.3
+    before_ended x.ensures c.next_on-y.ensures (nonzero_no x.result.word (search rules) c.if-v-eq0.true) c.loop-x.before ∙ sym c.loop-x.invariant.3
 
 pub loop-x-smaller : goal.loop-x-smaller
 loop-x-smaller c = let x = c.next_on-x in
@@ -32,4 +33,4 @@ loop-x-preserved c = let x = c.next_on-x in
     let b = i.1 in
     let l = (at_word x.ensures yes).low in
     let k = (other_passed x.ensures y.ensures yes i.2).low in
-    let r = rw (back x.result.word c.struct_told-1.given.0.1, back y.result.word c.struct_told-in-loop-x-1.given.0.1) at c.is_before-before.ensures in (omega arith, omega arith, before_long x.ensures y.ensures yes i.2, i.3 ∙ before_next x.ensures y.ensures yes i.2 c.loop-x.before r)
+    let r = rw (back x.result.word (search rules), back y.result.word (search rules)) at c.is_before-before.ensures in (omega arith, omega arith, before_long x.ensures y.ensures yes i.2, i.3 ∙ before_next x.ensures y.ensures yes i.2 c.loop-x.before r)

@@ -17,7 +17,7 @@ next_on-x-requires c = let low = c.loop-x.invariant.low in (c.requires.0, skip_l
 
 pub returns-then-word-eq0 : goal.returns-then-word-eq0
 returns-then-word-eq0 c = let low = c.loop-x.invariant.low in
-    counted_end c.loop-x.invariant (skip_next c.requires.2 (omega (arith, c.requires.1)) c.skip_at.ensures c.requires.0 c.next_on-x.ensures) (nonzero_no c.next_on-x.result.word ? c.if-word-eq0.true)
+    counted_end c.loop-x.invariant (skip_next c.requires.2 (omega (arith, c.requires.1)) c.skip_at.ensures c.requires.0 c.next_on-x.ensures) (nonzero_no c.next_on-x.result.word (search rules) c.if-word-eq0.true)
 
 pub overflow_add-n : goal.overflow_add-n
 overflow_add-n c = let low = c.loop-x.invariant.low in

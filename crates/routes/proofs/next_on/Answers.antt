@@ -1,4 +1,5 @@
 -- The words from the record are those from the cursor down, since no record passed has one.
+use borrow.Author.Rules.{rules}
 use Prim.Native.Nat.{◌-◌}
 use mathlib.Core.Path.{refl, ap, ◌∙◌}
 use native.Mathlib.Omega.{arith}
@@ -19,7 +20,7 @@ returns-then-word-ne0 c = let s = c.step_at-s.result in
     let low = c.loop-r.invariant.0 in
     let yes = nonzero_yes s.word c.if-word-ne0.true in
     let l = next_low c.args.route.now c.requires.0 c.loop-r.r s c.loop-r-test.true (omega (arith, c.requires.1)) c.step_at-s.ensures in
-    rw (back s.word c.struct_told-1.given.1.1.0.1) (a_word yes (omega arith) (c.loop-r.invariant.1 ∙ back_word c.args.route.now c.requires.0 c.loop-r.r s c.loop-r-test.true (omega (arith, c.requires.1)) c.step_at-s.ensures yes))
+    rw (back s.word (search rules)) (a_word yes (omega arith) (c.loop-r.invariant.1 ∙ back_word c.args.route.now c.requires.0 c.loop-r.r s c.loop-r-test.true (omega (arith, c.requires.1)) c.step_at-s.ensures yes))
 
 pub loop-r-smaller : goal.loop-r-smaller
 loop-r-smaller c = let s = c.step_at-s.result in
@@ -29,7 +30,7 @@ loop-r-smaller c = let s = c.step_at-s.result in
 pub loop-r-preserved : goal.loop-r-preserved
 loop-r-preserved c = let s = c.step_at-s.result in
     let low = c.loop-r.invariant.0 in
-    let l = next_low c.args.route.now c.requires.0 c.loop-r.r s c.loop-r-test.true (omega (arith, c.requires.1)) c.step_at-s.ensures in (omega arith, c.loop-r.invariant.1 ∙ back_quiet c.args.route.now c.requires.0 c.loop-r.r s c.loop-r-test.true (omega (arith, c.requires.1)) c.step_at-s.ensures (nonzero_no s.word (record { sfits = c.struct_told-1.given.1.1.0.1 }) c.if-word-ne0.false))
+    let l = next_low c.args.route.now c.requires.0 c.loop-r.r s c.loop-r-test.true (omega (arith, c.requires.1)) c.step_at-s.ensures in (omega arith, c.loop-r.invariant.1 ∙ back_quiet c.args.route.now c.requires.0 c.loop-r.r s c.loop-r-test.true (omega (arith, c.requires.1)) c.step_at-s.ensures (nonzero_no s.word (search rules) c.if-word-ne0.false))
 
 pub returns : goal.returns
 returns c = let a = c.args in

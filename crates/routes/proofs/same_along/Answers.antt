@@ -1,4 +1,5 @@
 -- The two read the same where they do from the cursors down: the words passed agree.
+use borrow.Author.Rules.{rules}
 use mathlib.Core.Path.{refl, sym, ap, ◌∙◌}
 use native.Mathlib.Omega.{arith}
 use mir.Syntax.{w32}
@@ -23,7 +24,7 @@ returns-then-v-w c = same_apart c.next_on-x.ensures c.next_on-y.ensures (λ e. c
 pub returns-then-v-eq0 : goal.returns-then-v-eq0
 returns-then-v-eq0 c = let x = c.next_on-x in
     let y = c.next_on-y in
-    same_ended x.ensures y.ensures (bits_eq x.result.word y.result.word (record { sfits = c.struct_told-1.given.0.1 }) (record { sfits = c.struct_told-in-loop-x-1.given.0.1 }) c.if-v-w.false) (nonzero_no x.result.word (record { sfits = c.struct_told-1.given.0.1 }) c.if-v-eq0.true) ∙ sym c.loop-x.invariant.2
+    same_ended x.ensures y.ensures (bits_eq x.result.word y.result.word (search rules) (search rules) c.if-v-w.false) (nonzero_no x.result.word (search rules) c.if-v-eq0.true) ∙ sym c.loop-x.invariant.2
 
 pub loop-x-smaller : goal.loop-x-smaller
 loop-x-smaller c = let x = c.next_on-x in
@@ -32,7 +33,7 @@ loop-x-smaller c = let x = c.next_on-x in
 pub loop-x-preserved : goal.loop-x-preserved
 loop-x-preserved c = let x = c.next_on-x in
     let y = c.next_on-y in
-    let e = bits_eq x.result.word y.result.word (record { sfits = c.struct_told-1.given.0.1 }) (record { sfits = c.struct_told-in-loop-x-1.given.0.1 }) c.if-v-w.false in
+    let e = bits_eq x.result.word y.result.word (search rules) (search rules) c.if-v-w.false in
     let yes = nonzero_yes x.result.word c.if-v-eq0.false in
     let i = c.loop-x.invariant in
     let a = i.0 in

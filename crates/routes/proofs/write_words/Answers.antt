@@ -27,7 +27,7 @@ loop-k-smaller c = omega arith
 pub loop-k-preserved : goal.loop-k-preserved
 loop-k-preserved c = let x = c.next_on-x.result in
     let low = c.loop-k.invariant.low in
-    rw (back x.word c.struct_told-1.given.0.1) (writing_next c.requires.2 c.requires.3 c.loop-k.invariant c.loop-k-test.true (skip_next c.requires.4 (omega (arith, c.requires.1)) c.skip_at.ensures c.requires.0 c.next_on-x.ensures))
+    rw (back x.word (search rules)) (writing_next c.requires.2 c.requires.3 c.loop-k.invariant c.loop-k-test.true (skip_next c.requires.4 (omega (arith, c.requires.1)) c.skip_at.ensures c.requires.0 c.next_on-x.ensures))
 
 pub returns : goal.returns
 returns c = writing_end c.requires.2 c.requires.3 c.loop-k-test.false c.loop-k.invariant

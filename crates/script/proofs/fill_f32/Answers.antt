@@ -1,8 +1,5 @@
 -- `script::fill_f32` meets its contract: after i turns the first i words are in place.
 use mathlib.Core.Path.{sym, ap, ◌∙◌}
-use Prim.Native.Nat.{◌-◌}
-use native.Mathlib.Omega.{arith}
-use borrow.Author.Tests.{not-true, not-false}
 use lib.Ieee.{nan, binary32, of_bits}
 use Rattle.script.proofs.Fill.{filling_none, filling_more, filled, not_filled}
 use Rattle.script.proofs.fill_f32.Goals as goal

@@ -1,8 +1,5 @@
 -- `script::fill_u32` meets its contract: after i turns the first i words are in place.
 use mathlib.Core.Path.{sym, ◌∙◌}
-use Prim.Native.Nat.{◌-◌}
-use native.Mathlib.Omega.{arith}
-use borrow.Author.Tests.{not-true, not-false}
 use Rattle.script.proofs.Fill.{filling_none, filling_more, filled, not_filled}
 use Rattle.script.proofs.fill_u32.Goals as goal
 

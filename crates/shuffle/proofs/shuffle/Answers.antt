@@ -1,10 +1,9 @@
 -- `shuffle::shuffle` meets its contract: the first i numbers have their bytes in the four parts of the output.
 use mathlib.Core.Path.{◌≡◌, sym, ◌∙◌}
-use Prim.Native.Nat.{◌-◌, ◌/◌, ◌%◌}
+use Prim.Native.Nat.{◌/◌, ◌%◌}
 use native.Mathlib.Omega.{arith}
-use mathlib.Core.Bool.{false}
-use lib.ListN.{length, length-set}
-use Rattle.shuffle.specs.Block.{wrong, shuffled, right}
+use lib.ListN.{length}
+use Rattle.shuffle.specs.Block.{shuffled, right}
 use Rattle.shuffle.proofs.Answers.{refused, done}
 use Rattle.shuffle.proofs.Filling.{shuffling_more, shuffling_done, filled_none}
 use Rattle.shuffle.proofs.shuffle.Goals as goal

@@ -1,11 +1,10 @@
 -- `shuffle::unshuffle` meets its contract: the first i numbers stand in the output. The loop is left by its first test alone.
 use mathlib.Core.Path.{◌≡◌, sym, ◌∙◌}
-use Prim.Native.Nat.{◌-◌, ◌/◌, ◌%◌}
+use Prim.Native.Nat.{◌/◌, ◌%◌}
 use native.Mathlib.Omega.{arith}
-use mathlib.Core.Bool.{false}
 use borrow.Author.Tests.{ltb-false}
-use lib.ListN.{length, length-set}
-use Rattle.shuffle.specs.Block.{wrong, unshuffled, right}
+use lib.ListN.{length}
+use Rattle.shuffle.specs.Block.{unshuffled, right}
 use Rattle.shuffle.proofs.Answers.{refused, done}
 use Rattle.shuffle.proofs.Filling.{unshuffling_more, unshuffling_done, filled_none}
 use Rattle.shuffle.proofs.unshuffle.Goals as goal

@@ -38,9 +38,9 @@ loop-r-smaller c = let few = c.loop-r.invariant.few in
 pub loop-r-preserved : goal.loop-r-preserved
 loop-r-preserved c = let s = c.step_at-s.result in
     measuring_next c.args.link c.requires.0 c.requires.1 s c.loop-r-test.true c.step_at-s.ensures
-    (elim c.if-word-ne0.branch
-    [ then-word-ne0 w ↦ inl (nonzero_yes s.word w.if-word-ne0.true, w.words-is)
-    | else-word-ne0 w ↦ inr (nonzero_no s.word (record { sfits = search }) w.if-word-ne0.false, w.words-is)
+    (elim c.if-word-ne0.branch [
+      | then-word-ne0 w ↦ inl (nonzero_yes s.word w.if-word-ne0.true, w.words-is)
+      | else-word-ne0 w ↦ inr (nonzero_no s.word (record { sfits = search }) w.if-word-ne0.false, w.words-is)
     ])
     (c.begin-head.ensures ∙ ap (λ (x : ℕ). head_on c.loop-r.head x s.at) c.resumes.ensures) c.begin-head-in-loop-r.ensures c.loop-r.invariant
 

@@ -8,7 +8,7 @@ pub config_of-requires : goal.config_of-requires
 config_of-requires c = omega (arith, c.requires)
 
 pub overflow_add-r : goal.overflow_add-r
-overflow_add-r c = record { fits = omega (arith, c.requires, c.well-formed.0.1) }
+overflow_add-r c = record { fits = omega (arith, c.requires, c.well_formed.0.1) }
 
 pub on_decoder-requires : goal.on_decoder-requires
 on_decoder-requires c = fitted_next _ _ _ _ _ _ _ c.fit-fitted.result c.say_fitted.result _ c.fit-fitted.ensures c.say_fitted.ensures c.in-Next.is c.fit-fitted.auto.queue

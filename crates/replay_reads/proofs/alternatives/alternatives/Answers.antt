@@ -20,7 +20,7 @@ pub asked-requires-4 : goal.asked-requires-4
 asked-requires-4 c = c.requires.0
 
 pub overflow_add-r : goal.overflow_add-r
-overflow_add-r c = record { fits = omega (arith, c.requires.0, c.well-formed.0.1) }
+overflow_add-r c = record { fits = omega (arith, c.requires.0, c.well_formed.0.1) }
 
 pub slice_bounds-words-end : goal.slice_bounds-words-end
 slice_bounds-words-end c = omega (arith, c.least-n.ensures.1, c.list_words-words.ensures)

@@ -25,37 +25,37 @@ pub slice_bounds-reading_list-end-18 : goal.slice_bounds-reading_list-end-18
 slice_bounds-reading_list-end-18 c = sym (length-take-le _ _ (omega (arith, c.requires.1.1.words_are, c.requires.1.0.words)))
 
 pub slice_bounds-reading_list-end-19 : goal.slice_bounds-reading_list-end-19
-slice_bounds-reading_list-end-19 c = omega (arith, c.requires.1.1.frames-are, c.requires.1.0.frames)
+slice_bounds-reading_list-end-19 c = omega (arith, c.requires.1.1.frames_are, c.requires.1.0.frames)
 
 pub slice_bounds-reading_list-end-20 : goal.slice_bounds-reading_list-end-20
-slice_bounds-reading_list-end-20 c = sym (length-take-le _ _ (omega (arith, c.requires.1.1.frames-are, c.requires.1.0.frames)))
+slice_bounds-reading_list-end-20 c = sym (length-take-le _ _ (omega (arith, c.requires.1.1.frames_are, c.requires.1.0.frames)))
 
 pub overflow_mul-s : goal.overflow_mul-s
 overflow_mul-s c = record { fits = omega (arith, c.requires.1.0.segments) }
 
 pub slice_bounds-reading_list-end-21 : goal.slice_bounds-reading_list-end-21
-slice_bounds-reading_list-end-21 c = omega (arith, c.requires.1.1.segments-are, c.requires.1.0.segments)
+slice_bounds-reading_list-end-21 c = omega (arith, c.requires.1.1.segments_are, c.requires.1.0.segments)
 
 pub slice_bounds-reading_list-end-22 : goal.slice_bounds-reading_list-end-22
-slice_bounds-reading_list-end-22 c = sym (length-take-le _ _ (omega (arith, c.requires.1.1.segments-are, c.requires.1.0.segments)))
+slice_bounds-reading_list-end-22 c = sym (length-take-le _ _ (omega (arith, c.requires.1.1.segments_are, c.requires.1.0.segments)))
 
 pub overflow_mul-s-2 : goal.overflow_mul-s-2
 overflow_mul-s-2 c = record { fits = omega (arith, c.requires.1.0.entries) }
 
 pub slice_bounds-reading_list-end-23 : goal.slice_bounds-reading_list-end-23
-slice_bounds-reading_list-end-23 c = omega (arith, c.requires.1.1.numbers-are, c.requires.1.0.entries)
+slice_bounds-reading_list-end-23 c = omega (arith, c.requires.1.1.numbers_are, c.requires.1.0.entries)
 
 pub slice_bounds-reading_list-end-24 : goal.slice_bounds-reading_list-end-24
-slice_bounds-reading_list-end-24 c = sym (length-take-le _ _ (omega (arith, c.requires.1.1.numbers-are, c.requires.1.0.entries)))
+slice_bounds-reading_list-end-24 c = sym (length-take-le _ _ (omega (arith, c.requires.1.1.numbers_are, c.requires.1.0.entries)))
 
 pub overflow_mul-s-3 : goal.overflow_mul-s-3
 overflow_mul-s-3 c = record { fits = omega (arith, c.requires.1.0.entries) }
 
 pub slice_bounds-reading_list-end-25 : goal.slice_bounds-reading_list-end-25
-slice_bounds-reading_list-end-25 c = omega (arith, c.requires.1.1.costs-are, c.requires.1.0.entries)
+slice_bounds-reading_list-end-25 c = omega (arith, c.requires.1.1.costs_are, c.requires.1.0.entries)
 
 pub slice_bounds-reading_list-end-26 : goal.slice_bounds-reading_list-end-26
-slice_bounds-reading_list-end-26 c = sym (length-take-le _ _ (omega (arith, c.requires.1.1.costs-are, c.requires.1.0.entries)))
+slice_bounds-reading_list-end-26 c = sym (length-take-le _ _ (omega (arith, c.requires.1.1.costs_are, c.requires.1.0.entries)))
 
 pub reading_list-requires : goal.reading_list-requires
 reading_list-requires c = readings_lent _ _ _ _ _ _ _ _ _ _ (length (take c.args.s.kept c.kept_hash_places-kept_hashes.result)) _ _ c.key_places-keys.ensures c.state_places-places.ensures c.state_places-own.ensures c.state_places-heads.ensures c.item_places-list.ensures c.list_places-lists.ensures c.route_places-route.ensures c.history_key_places-history_keys.ensures c.list_places-history_skips.ensures c.kept_order_places-numbering.ensures c.kept_link_places-kept_links.ensures c.kept_sum_places-kept_sums.ensures c.requires.0

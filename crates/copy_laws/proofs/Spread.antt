@@ -17,12 +17,15 @@ use Rattle.model.proofs.Accepted.{weaken}
 use Rattle.model.specs.Checked.{GoodGraph}
 use Rattle.copy_laws.specs.Walks.{Heard}
 use Rattle.copy_laws.specs.Drops.{drops_emitting}
-use Rattle.copy_laws.specs.Tables.{At, at_one, none≢some, at_length}
-use Rattle.copy_laws.specs.Carried.{Visiting, emitting_carried}
+use Rattle.copy_laws.specs.Tables.{At}
+use Rattle.copy_laws.proofs.Tables.{at_one, none≢some, at_length}
+use Rattle.copy_laws.proofs.Carried.{Visiting, emitting_carried}
 use Rattle.copy_laws.specs.Sums.{Floats32}
 use Rattle.copy_laws.specs.Active.{Active}
-use Rattle.copy_laws.specs.Kept.{InHand, hearing, Since, visiting, begins}
-use Rattle.copy_laws.specs.Within.{Within, Reals, lowers_within, came_lowers, came_within}
+use Rattle.copy_laws.specs.Kept.{hearing, Since}
+use Rattle.copy_laws.proofs.Kept.{InHand, visiting, begins}
+use Rattle.copy_laws.specs.Within.{Within, Reals}
+use Rattle.copy_laws.proofs.Within.{lowers_within, came_lowers, came_within}
 
 pub active_reals : (g : Graph) (fs : List Heard) (ts : Table) (q n : ℕ) → Active g fs ts q n → Reals ts
 active_reals g fs ts q n a s t e = tame_real t.cost (holds (a.sound s t e).sums.cost_tame)

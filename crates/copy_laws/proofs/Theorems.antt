@@ -22,23 +22,31 @@ use Rattle.model.specs.Accepted.{Ok}
 use Rattle.model.proofs.Checked.{checked}
 use Rattle.copy_laws.specs.Tables.{At}
 use Rattle.copy_laws.specs.Sums.{Floats32}
-use Rattle.copy_laws.specs.Shapes.{differences}
-use Rattle.copy_laws.specs.Kept.{hearing, Since, emitting_active}
-use Rattle.copy_laws.specs.States.{Standing, frame_timely, start_inside, start_active, seq_fits}
-use Rattle.copy_laws.specs.Closing.{pass_is_loop}
-use Rattle.copy_laws.specs.Points.{reached, reached_stands}
-use Rattle.copy_laws.specs.Remembered.{cut_remembered}
-use Rattle.copy_laws.specs.Ranks.{ranked_sure}
-use Rattle.copy_laws.specs.Below.{Keyed, below_keyed}
-use Rattle.copy_laws.specs.Costs.{fair_margin_lem, readings_sure}
-use Rattle.copy_laws.specs.Bounds.{below_bounded}
-use Rattle.copy_laws.specs.Groups.{group_order, group_map, best_of, grouped_right, best_right as best-right-of}
-use Rattle.copy_laws.specs.Traces.{own_recs, own_trace, NeverMerges, own_merges_none, own_trace_lem}
-use Rattle.copy_laws.specs.Told.{told_of, call_told, limited_answers, limited_after, tell, told_right, tell_split, tell-length}
+use Rattle.copy_laws.proofs.Shapes.{differences}
+use Rattle.copy_laws.specs.Kept.{hearing, Since}
+use Rattle.copy_laws.proofs.Kept.{emitting_active}
+use Rattle.copy_laws.specs.States.{Standing}
+use Rattle.copy_laws.proofs.States.{frame_timely, start_inside, start_active, seq_fits}
+use Rattle.copy_laws.proofs.Closing.{pass_is_loop}
+use Rattle.copy_laws.specs.Points.{reached}
+use Rattle.copy_laws.proofs.Points.{reached_stands}
+use Rattle.copy_laws.proofs.Remembered.{cut_remembered}
+use Rattle.copy_laws.proofs.Ranks.{ranked_sure}
+use Rattle.copy_laws.specs.Below.{Keyed}
+use Rattle.copy_laws.proofs.Below.{below_keyed}
+use Rattle.copy_laws.proofs.Costs.{fair_margin_lem, readings_sure}
+use Rattle.copy_laws.proofs.Bounds.{below_bounded}
+use Rattle.copy_laws.specs.Groups.{group_order, group_map, best_of}
+use Rattle.copy_laws.proofs.Groups.{grouped_right, best_right as best-right-of}
+use Rattle.copy_laws.specs.Traces.{own_recs, own_trace, NeverMerges}
+use Rattle.copy_laws.proofs.Traces.{own_merges_none, own_trace_lem}
+use Rattle.copy_laws.specs.Told.{told_of, limited_answers, limited_after, tell}
+use Rattle.copy_laws.proofs.Told.{call_told, told_right, tell_split, tell-length}
 use Rattle.copy_laws.specs.Claims.{OnePath, NothingCut, BestOrNone, Says, refusals_of, Run, QueueLoops, SumsSure}
-use Rattle.copy_laws.specs.Sayings.{uncut, call_says, answer_at, told_state, asks_finals, words_in, lists_in, words_say, lists_say, best_says}
-use Rattle.copy_laws.specs.Refusals.{call_refusals, told_refusals, refusals_positive}
-use Rattle.copy_laws.specs.StartSums.{start_refusals}
+use Rattle.copy_laws.specs.Sayings.{asks_finals, words_in, lists_in}
+use Rattle.copy_laws.proofs.Sayings.{uncut, call_says, answer_at, told_state, words_say, lists_say, best_says}
+use Rattle.copy_laws.proofs.Refusals.{call_refusals, told_refusals, refusals_positive}
+use Rattle.copy_laws.proofs.StartSums.{start_refusals}
 use Rattle.copy_laws.specs.Segments.{Tiles}
 
 -- 7. "all answers are .. those of document 01's whole-path copy, which .. is told only which calls a full store refused": with any stores lent to each call, told just the 13 to 15 it gives the same answers, places of refusals included.

@@ -22,7 +22,8 @@ use Rattle.model.proofs.Accepted.{weaken}
 use Rattle.model.proofs.Came.{Came, arrive_came}
 use Rattle.copy_laws.specs.Drops.{on_ok, drops_total, drops_emit, drops_emitting, drops_popped, drops_queue, drops_nonemitting}
 use Rattle.copy_laws.specs.Tables.{At}
-use Rattle.copy_laws.specs.Begun.{Starts, push_starts}
+use Rattle.copy_laws.specs.Begun.{Starts}
+use Rattle.copy_laws.proofs.Begun.{push_starts}
 
 -- then, beside a test that a claim makes false
 pub then_uncut : {A B : Type 0} (U : Type 0) (P : A → Type 0) (Q : B → Type 0) (f : A → Bool) (m : Outcome A) (k : A → Outcome B) → Ok P m → (U → on_ok f m ≡ false) → ((a : A) → P a → (U → f a ≡ false) → Ok Q (k a)) → Ok Q (m >>= k)

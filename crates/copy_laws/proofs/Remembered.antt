@@ -15,19 +15,23 @@ use Rattle.model.specs.Graph.{Graph, Arc, no_state, states, arcs_of, check_graph
 use Rattle.model.specs.Path.{Token, Table, unlimited}
 use Rattle.model.specs.Cutoff.{Config, best, get_cutoff}
 use Rattle.model.specs.Arrive.{Pass, emitting, nonemitting, total, Here, Work, arrive, arrive_all}
-use Rattle.model.specs.Passes.{offset_of, look, empty_work, emitting_pass, push_from, popped, expand, fuel, State, dropped, during, start_work, start, frame}
+use Rattle.model.specs.Passes.{offset_of, look, empty_work, emitting_pass, push_from, popped, expand, fuel, State, dropped, during, start_work, frame}
 use Rattle.model.specs.Calls.{Call, start_call, frame_call, keep_call, read_call}
 use Rattle.model.specs.Accepted.{Ok}
 use Rattle.model.specs.Checked.{GoodGraph}
 use Rattle.model.proofs.Checked.{checked}
 use Rattle.copy_laws.specs.Walks.{Heard}
 use Rattle.copy_laws.specs.Drops.{on_ok, drops_total, drops_emit, drops_emitting, drops_popped, drops_queue, drops_nonemitting, drops_start, drops_frame}
-use Rattle.copy_laws.specs.Begun.{Starts, push_starts}
+use Rattle.copy_laws.specs.Begun.{Starts}
+use Rattle.copy_laws.proofs.Begun.{push_starts}
 use Rattle.copy_laws.specs.Sums.{Floats32}
-use Rattle.copy_laws.specs.Kept.{hearing, Since, Between, emitting_active}
-use Rattle.copy_laws.specs.States.{Standing, start_inside, start_active, in_frame}
-use Rattle.copy_laws.specs.Ends.{Going, enough, turn_goes}
-use Rattle.copy_laws.specs.Points.{Point, after_start, after_frame, go_to, after, fitted_point, reached, reached_stands}
+use Rattle.copy_laws.specs.Kept.{hearing, Since, Between}
+use Rattle.copy_laws.proofs.Kept.{emitting_active}
+use Rattle.copy_laws.specs.States.{Standing, in_frame}
+use Rattle.copy_laws.proofs.States.{start_inside, start_active}
+use Rattle.copy_laws.proofs.Ends.{Going, enough, turn_goes}
+use Rattle.copy_laws.specs.Points.{Point, after_start, after_frame, go_to, after, fitted_point, reached}
+use Rattle.copy_laws.proofs.Points.{reached_stands}
 use Rattle.copy_laws.specs.Cuts.{TotalCut, total_here, total_later, total_past, EmittingCut, token_above, token_total, token_later, token_past, QueueCut, popped_above, popped_total, popped_later, CallCut, start_cut, frame_cut, queue_cut, NoStart, HasCut}
 
 -- ---- a test that runs beside a pass

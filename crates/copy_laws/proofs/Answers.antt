@@ -20,16 +20,21 @@ use Rattle.model.specs.Readings.{readings}
 use Rattle.model.specs.Calls.{Reading, reading_of}
 use Rattle.model.specs.Checked.{GoodGraph}
 use Rattle.copy_laws.specs.Walks.{words_along, sum_of}
-use Rattle.copy_laws.specs.Routes.{along, trace_words}
+use Rattle.copy_laws.specs.Routes.{along}
+use Rattle.copy_laws.proofs.Routes.{trace_words}
 use Rattle.copy_laws.specs.Tables.{At}
 use Rattle.copy_laws.specs.Sums.{Floats32}
 use Rattle.copy_laws.specs.Points.{Point, Stands}
-use Rattle.copy_laws.specs.Ranks.{end_weight, RankedAt, ranked_at_lem, ranked_final, zero_more, plain_rank, plain_ranked}
-use Rattle.copy_laws.specs.Sooner.{first_least}
-use Rattle.copy_laws.specs.Listed.{Listed, grouped_own, readings_listed_lem}
-use Rattle.copy_laws.specs.Distinct.{group_words, readings_distinct, alternatives_distinct, reading_traces_distinct}
-use Rattle.copy_laws.specs.Stamps.{trace_frames}
-use Rattle.copy_laws.specs.Segments.{own_segments, no_segments, Tiles}
+use Rattle.copy_laws.specs.Ranks.{end_weight, RankedAt}
+use Rattle.copy_laws.proofs.Ranks.{ranked_at_lem, ranked_final, zero_more, plain_rank, plain_ranked}
+use Rattle.copy_laws.proofs.Sooner.{first_least}
+use Rattle.copy_laws.specs.Listed.{Listed}
+use Rattle.copy_laws.proofs.Listed.{grouped_own, readings_listed_lem}
+use Rattle.copy_laws.specs.Distinct.{group_words}
+use Rattle.copy_laws.proofs.Distinct.{readings_distinct, alternatives_distinct, reading_traces_distinct}
+use Rattle.copy_laws.proofs.Stamps.{trace_frames}
+use Rattle.copy_laws.specs.Segments.{Tiles}
+use Rattle.copy_laws.proofs.Segments.{own_segments, no_segments}
 use Rattle.copy_laws.specs.Claims.{OnePath, OneTrace, Own, Best, BestOrNone, Alternatives, Readings}
 
 module _ (g : Graph) (good : GoodGraph g) (floats : Floats32 g) (pt : Point) (h : Stands g pt) (f : Bool) where

@@ -17,15 +17,19 @@ use Rattle.model.proofs.Accepted.{then}
 use Rattle.model.specs.Checked.{GoodGraph}
 use Rattle.copy_laws.specs.Walks.{Heard}
 use Rattle.copy_laws.specs.Drops.{on_ok, drops_emitting, drops_nonemitting, drops_start, drops_frame}
-use Rattle.copy_laws.specs.Tables.{at_new}
-use Rattle.copy_laws.specs.Carried.{then_uncut}
+use Rattle.copy_laws.proofs.Tables.{at_new}
+use Rattle.copy_laws.proofs.Carried.{then_uncut}
 use Rattle.copy_laws.specs.Sums.{Floats32}
 use Rattle.copy_laws.specs.Kept.{hearing}
-use Rattle.copy_laws.specs.States.{frame_timely, Standing, start_inside, start_active, in_frame, frame_passes}
-use Rattle.copy_laws.specs.Within.{Within, lowers_within}
-use Rattle.copy_laws.specs.Spread.{Emitted, emitting_spreads}
-use Rattle.copy_laws.specs.Closing.{Whole, pass_closes}
-use Rattle.copy_laws.specs.Least.{Covered, start_covered, frame_covered}
+use Rattle.copy_laws.specs.States.{Standing, in_frame}
+use Rattle.copy_laws.proofs.States.{frame_timely, start_inside, start_active, frame_passes}
+use Rattle.copy_laws.specs.Within.{Within}
+use Rattle.copy_laws.proofs.Within.{lowers_within}
+use Rattle.copy_laws.proofs.Spread.{Emitted, emitting_spreads}
+use Rattle.copy_laws.specs.Closing.{Whole}
+use Rattle.copy_laws.proofs.Closing.{pass_closes}
+use Rattle.copy_laws.specs.Least.{Covered}
+use Rattle.copy_laws.proofs.Least.{start_covered, frame_covered}
 
 module _ (g : Graph) (good : GoodGraph g) (floats : Floats32 g) (c : Config) (l : Limits) (st : State) where
   abbrev CoveredState : List Heard → State → Type 0
