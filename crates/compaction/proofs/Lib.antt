@@ -4,3 +4,4 @@ pub mod Moves
 pub mod Slides
 pub mod Stays
 pub mod Compacting
+pub mod Exact

@@ -4,4 +4,3 @@ pub mod Slide
 pub mod Numbers
 pub mod Count
 pub mod Carried
-pub mod Exact

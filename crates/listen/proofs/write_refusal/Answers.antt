@@ -1,7 +1,7 @@
 -- `listen::write_refusal` is safe: the line stands in the slice.
 use mathlib.Core.Path.{sym}
 use lib.Seq.{length-take-le}
-use Rattle.refusal_lines.specs.Laws.{written_fits}
+use Rattle.refusal_lines.proofs.Laws.{written_fits}
 use Rattle.listen.proofs.write_refusal.Goals as goal
 
 pub slice_bounds-line-end : goal.slice_bounds-line-end

@@ -8,6 +8,9 @@ use Rattle.nonemitting.proofs.drain.Goals as goal
 pub loop-w-init : goal.loop-w-init
 loop-w-init c = (lens_self _, refl, λ G. far_start G)
 
+pub offset_bounds-queue-count : goal.offset_bounds-queue-count
+offset_bounds-queue-count c = let k = c.loop-w.invariant.1 in let f = (c.loop-w.invariant.2 c.requires).at.fits in record { fits = omega arith }
+
 pub bounds-queue-count : goal.bounds-queue-count
 bounds-queue-count c = let f = (c.loop-w.invariant.2 c.requires).at.fits in let h = c.loop-w-test.true in omega arith
 

@@ -3,7 +3,7 @@ use mathlib.Core.Path.{refl, sym, ◌∙◌}
 use native.Mathlib.Omega.{arith}
 use Rattle.decimals.specs.Stored.{stored_more}
 use Rattle.refusal_lines.specs.Line.{text, numbered, name_of, place_text, heading, line_of}
-use Rattle.refusal_lines.specs.Laws.{name_length, numbered-length, place-length}
+use Rattle.refusal_lines.proofs.Laws.{name_length, numbered-length, place-length}
 use Rattle.refusal_lines.proofs.compose.Goals as goal
 
 pub returns-then-not-may_have : goal.returns-then-not-may_have

@@ -4,7 +4,7 @@ use mathlib.Core.List.{◌++◌}
 use Rattle.decimals.specs.Decimal.{decimal}
 use Rattle.decimals.specs.Stored.{stored_more}
 use Rattle.refusal_lines.specs.Line.{text, numbered}
-use Rattle.refusal_lines.specs.Laws.{numbered_parts}
+use Rattle.refusal_lines.proofs.Laws.{numbered_parts}
 use Rattle.refusal_lines.proofs.put_number.Goals as goal
 
 pub put-start-requires : goal.put-start-requires

@@ -6,7 +6,7 @@ use mathlib.Core.List.{List}
 use lib.ListN.{length, take, drop}
 use Rattle.decimals.specs.Stored.{Stored}
 use Rattle.refusal_lines.specs.Line.{text, unnamed, names, name_of}
-use Rattle.refusal_lines.specs.Laws.{name_length}
+use Rattle.refusal_lines.proofs.Laws.{name_length}
 use Rattle.refusal_lines.proofs.Table.{rows, row_is}
 use Rattle.refusal_lines.proofs.put_row.Goals as goal
 

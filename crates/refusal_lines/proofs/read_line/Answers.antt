@@ -7,7 +7,7 @@ use Rattle.decimals.specs.Stored.{stored_front}
 use Rattle.refusals.specs.declared.Refusal.{Refusal}
 use Rattle.refusal_lines.specs.Line.{line_of}
 use Rattle.refusal_lines.specs.Answer.{Fits}
-use Rattle.refusal_lines.specs.Laws.{line-length, only_refusal, refusal_fits, line_not_empty, line_placed}
+use Rattle.refusal_lines.proofs.Laws.{line-length, only_refusal, refusal_fits, line_not_empty, line_placed}
 use Rattle.refusal_lines.proofs.read_line.Goals as goal
 
 pub returns-then-end-eq0 : goal.returns-then-end-eq0

@@ -6,7 +6,7 @@ use mathlib.Core.List.{List}
 use lib.ListN.{length, length-take}
 use Rattle.decimals.specs.Stored.{Stored, stored_front, stored_start}
 use Rattle.refusal_lines.specs.Line.{line_of}
-use Rattle.refusal_lines.specs.Laws.{line-length}
+use Rattle.refusal_lines.proofs.Laws.{line-length}
 use Rattle.refusal_lines.proofs.write_line.Goals as goal
 
 pub slice_bounds-line-end : goal.slice_bounds-line-end

@@ -3,7 +3,8 @@ use mathlib.Core.Path.{◌≡◌, sym, ◌∙◌}
 use Prim.Native.Nat.{◌/◌, ◌%◌}
 use native.Mathlib.Omega.{arith}
 use lib.ListN.{length}
-use Rattle.shuffle.specs.Block.{shuffled, right}
+use Rattle.shuffle.specs.Block.{shuffled}
+use Rattle.shuffle.proofs.Block.{right}
 use Rattle.shuffle.proofs.Answers.{refused, done}
 use Rattle.shuffle.proofs.Filling.{shuffling_more, shuffling_done, filled_none}
 use Rattle.shuffle.proofs.shuffle.Goals as goal

@@ -4,7 +4,8 @@ use Prim.Native.Nat.{◌/◌, ◌%◌}
 use native.Mathlib.Omega.{arith}
 use borrow.Author.Tests.{ltb-false}
 use lib.ListN.{length}
-use Rattle.shuffle.specs.Block.{unshuffled, right}
+use Rattle.shuffle.specs.Block.{unshuffled}
+use Rattle.shuffle.proofs.Block.{right}
 use Rattle.shuffle.proofs.Answers.{refused, done}
 use Rattle.shuffle.proofs.Filling.{unshuffling_more, unshuffling_done, filled_none}
 use Rattle.shuffle.proofs.unshuffle.Goals as goal
