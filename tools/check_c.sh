@@ -13,7 +13,7 @@ case ${1:-} in
     *) library=$from/$1 ;;
 esac
 if [ ! -f "$library" ]; then
-    echo "there is no $library: \`rt staticlib hirqazhom\` makes it" >&2
+    echo "there is no $library: \`tools/staticlib.sh\` makes it" >&2
     exit 2
 fi
 work=$(mktemp -d) || exit 2

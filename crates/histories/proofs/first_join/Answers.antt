@@ -4,17 +4,10 @@ use Rattle.histories.specs.Laws.{join_at_lem, link_at_lem}
 use Rattle.histories.proofs.Steps.{at_start_lem}
 use Rattle.histories.proofs.first_join.Goals as goal
 
-pub loop-r-init : goal.loop-r-init
-loop-r-init c = (search rules, λ gs h ok. refl)
-
 pub returns-then-is_join : goal.returns-then-is_join
 returns-then-is_join c =
     let l = c.loop-r in
     record { low = l.invariant.0; is = λ gs h ok. sym (l.invariant.1 gs h ok ∙ join_at_lem ok (l.r - 1) (omega arith) (omega arith) (sym c.is_join.ensures ∙ c.if-is_join.true)) }
-
-pub loop-r-smaller : goal.loop-r-smaller
-loop-r-smaller c =
-    omega (arith, c.requires.0.prev_low (c.loop-r.r - 1) (omega arith))
 
 pub loop-r-preserved : goal.loop-r-preserved
 loop-r-preserved c =

@@ -8,15 +8,6 @@ use Rattle.histories.proofs.hash_above.Goals as goal
 pub loop-r-init : goal.loop-r-init
 loop-r-init c = hashing_none c.next_word-r.ensures
 
-pub next_word-r-requires-in-loop-r : goal.next_word-r-requires-in-loop-r
-next_word-r-requires-in-loop-r c =
-    let i = c.loop-r.invariant.low in
-    (c.requires.0, omega (arith, c.requires.0.prev_low (c.loop-r.r - 1) (omega (arith, i)), i, c.prev_of.ensures), c.requires.2)
-
-pub loop-r-smaller : goal.loop-r-smaller
-loop-r-smaller c =
-    omega (arith, c.requires.0.prev_low (c.loop-r.r - 1) (omega arith))
-
 pub loop-r-preserved : goal.loop-r-preserved
 loop-r-preserved c =
     let w = c.word_of in

@@ -6,16 +6,6 @@ use borrow.Author.Rules.{rules}
 use native.Mathlib.Omega.{arith}
 use Rattle.joins.proofs.meet.Goals as goal
 
-pub apart-init : goal.apart-init
-apart-init c = walked_none _ _ _ _ _ (search rules) (search rules)
-
-pub loop-a-init : goal.loop-a-init
-loop-a-init c = c.apart.invariant
-
-pub loop-a-smaller : goal.loop-a-smaller
-loop-a-smaller c =
-    omega (arith, c.requires.0.prev_low (c.loop-a.a - 1) (omega arith))
-
 pub loop-a-preserved : goal.loop-a-preserved
 loop-a-preserved c =
     walked_won (c.loop-a.a - 1) c.requires.0.prev_low c.prev_of-a.ensures (omega arith) (omega arith) c.loop-a.invariant
@@ -23,10 +13,6 @@ loop-a-preserved c =
 pub returns-then-join_within : goal.returns-then-join_within
 returns-then-join_within c =
     walked_fits (c.apart.b - 1) (omega arith) (omega arith) (sym c.join_within.ensures ∙ c.if-join_within.true) c.loop-a.invariant
-
-pub apart-smaller : goal.apart-smaller
-apart-smaller c =
-    omega (arith, c.requires.0.prev_low (c.apart.b - 1) (omega arith))
 
 pub apart-preserved : goal.apart-preserved
 apart-preserved c =

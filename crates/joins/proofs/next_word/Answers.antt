@@ -7,9 +7,6 @@ use borrow.Author.Rules.{rules}
 use native.Mathlib.Omega.{arith}
 use Rattle.joins.proofs.next_word.Goals as goal
 
-pub loop-q-init : goal.loop-q-init
-loop-q-init c = (search rules, λ gs h ok. refl)
-
 pub returns-then-word_of-ne0 : goal.returns-then-word_of-ne0
 returns-then-word_of-ne0 c =
     let w = c.word_of in
@@ -19,10 +16,6 @@ returns-then-word_of-ne0 c =
       some = λ a gs h ok. c.loop-q.invariant.1 gs h ok ∙ words_at ok (c.loop-q.q - 1) c.args.met (omega arith) (omega arith) (omega arith)
           ∙ simp (← w.ensures, nonzero_yes w.result c.if-word_of-ne0.true);
     }
-
-pub loop-q-smaller : goal.loop-q-smaller
-loop-q-smaller c =
-    omega (arith, c.requires.0.prev_low (c.loop-q.q - 1) (omega arith))
 
 pub loop-q-preserved : goal.loop-q-preserved
 loop-q-preserved c =

@@ -9,9 +9,6 @@ use borrow.Author.Rules.{rules}
 use native.Mathlib.Omega.{arith}
 use Rattle.joins.proofs.same_above.Goals as goal
 
-pub loop-a-init : goal.loop-a-init
-loop-a-init c = (search rules, search rules, λ gs h ok. refl)
-
 pub returns-then-a-b : goal.returns-then-a-b
 returns-then-a-b c =
     record { is = λ gs h ok. sym (c.loop-a.invariant.2 gs h ok ∙ one_record c.next_word-a.ensures c.next_word-b.ensures c.if-a-b.true gs h ok) }
@@ -35,12 +32,6 @@ returns-then-word_of c =
           (next_is c.next_word-b.ensures gs h ok c.if-b-met.false c.word_of-in-loop-a.ensures refl)
           (λ e. c.if-word_of.true (ap (of_z w32) e)));
     }
-
-pub loop-a-smaller : goal.loop-a-smaller
-loop-a-smaller c =
-    let p = c.next_word-a in
-    let i = c.if-a-met.false in
-    omega (arith, c.requires.0.prev_low (p.result - 1) (omega (arith, p.ensures.low)), c.prev_of-a.ensures, p.ensures.low, i)
 
 pub loop-a-preserved : goal.loop-a-preserved
 loop-a-preserved c =

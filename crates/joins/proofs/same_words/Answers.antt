@@ -8,10 +8,6 @@ use Rattle.joins.proofs.Compare.{same_next, other_next, one_ends, over_front, ne
 use native.Mathlib.Omega.{arith}
 use Rattle.joins.proofs.same_words.Goals as goal
 
-pub returns-then-over-eq0 : goal.returns-then-over-eq0
-returns-then-over-eq0 c =
-    record { is = λ gs h ok. c.same_above.ensures.is gs h ok ∙ simp (nonzero_no c.args.over c.ranges.over c.if-over-eq0.true) }
-
 pub returns-then-a-met : goal.returns-then-a-met
 returns-then-a-met c =
     record {
@@ -28,11 +24,6 @@ returns-then-word_of-over c =
           (over_front c.args.over _ (nonzero_yes c.args.over c.if-over-eq0.false))
           (λ e. c.if-word_of-over.true (ap (of_z w32) e)));
     }
-
-pub same_above-requires-2 : goal.same_above-requires-2
-same_above-requires-2 c =
-    let p = c.next_word-a in
-    (c.requires.0, omega (arith, c.requires.0.prev_low (p.result - 1) (omega (arith, p.ensures.low)), c.prev_of.ensures, p.ensures.low), c.requires.2, c.requires.3)
 
 pub returns : goal.returns
 returns c =

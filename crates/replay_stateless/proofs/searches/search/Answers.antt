@@ -10,5 +10,5 @@ use Rattle.replay_stateless.proofs.searches.search.Goals as goal
 pub say_found-requires : goal.say_found-requires
 say_found-requires c =
     let out = c.fill_u32.new.out in
-    let room : c.args.n ≤ length out = filled_room c.fill_u32.ensures c.if-not-fill_u32.false in
+    let room : c.args.n ≤ length out = omega (arith, filled_room c.fill_u32.ensures c.if-not-fill_u32.false) in
     found_below _ _ (2 ^ 32) c.find.result (omega (arith, length-take-le c.args.n out room)) c.find.ensures
