@@ -2,7 +2,6 @@
 use mathlib.Core.Path.{refl, ◌∙◌}
 use Prim.Native.Nat.{◌-◌}
 use native.Mathlib.Omega.{arith}
-use Rattle.lists.specs.Tests.{next_fits}
 use Rattle.stores.specs.Rep.{lens_self, lens_then}
 use Rattle.arcs.specs.All.{far_start, all_now, far_next, far_stop, far_end}
 use Rattle.arcs.proofs.arrive_all.Goals as goal

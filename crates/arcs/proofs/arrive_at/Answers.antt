@@ -1,6 +1,5 @@
 -- An arc that the pass does not take changes nothing.
 use mathlib.Core.Path.{sym, ◌∙◌}
-use borrow.Author.Tests.{not-true, not-false}
 use Rattle.arcs.specs.All.{step_skips, taken_now, whole_given, step_whole}
 use Rattle.arcs.proofs.arrive_at.Goals as goal
 

@@ -1,6 +1,5 @@
 -- The state is marked before it is pushed.
 use mathlib.Core.Path.{refl, sym, ◌∙◌}
-use borrow.Author.Tests.{not-true, not-false}
 use Rattle.arcs.specs.Finish.{joined_stays, joined_pushed}
 use Rattle.arcs.proofs.push_joined.Goals as goal
 

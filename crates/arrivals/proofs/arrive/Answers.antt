@@ -1,6 +1,5 @@
 -- Each way out is a law of what its parts leave.
 use Rattle.std.proofs.Common.{sym, refl, ap, ◌∙◌, arith}
-use borrow.Author.Tests.{not-true, not-false}
 use Rattle.arrivals.specs.Arrival.{is_cut_off}
 use Rattle.arrivals.specs.Arrives.{cut_is, total_refused, target_room, room_asks, then_asks, arrived}
 use Rattle.arrivals.proofs.arrive.Goals as goal

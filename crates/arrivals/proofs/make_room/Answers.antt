@@ -1,6 +1,5 @@
 -- Where a record can be wanted, the compaction's room.
 use Rattle.std.proofs.Common.{sym, refl, ◌∙◌}
-use borrow.Author.Tests.{not-true}
 use Rattle.arrivals.specs.Room.{not_wanted, room_made}
 use Rattle.arrivals.proofs.make_room.Goals as goal
 

@@ -1,6 +1,5 @@
 -- The tests of the definition, in its order.
 use Rattle.std.proofs.Common.{sym, ◌∙◌}
-use borrow.Author.Tests.{not-false, not-true}
 use Rattle.tokens.specs.Layout.{cell_at}
 use Rattle.arrivals.specs.Arrival.{meets_at}
 use Rattle.arrivals.proofs.meet.Goals as goal

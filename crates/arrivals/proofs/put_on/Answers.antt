@@ -1,6 +1,5 @@
 -- One way out for each of its cases.
 use Rattle.std.proofs.Common.{sym, refl, ◌∙◌, arith}
-use borrow.Author.Tests.{not-false, not-true}
 use Rattle.model.specs.Ints.{back}
 use Rattle.arrivals.specs.PutOn.{sum_refused, record_refused, link_on_it, no_link_on_it}
 use Rattle.arrivals.proofs.put_on.Goals as goal

@@ -1,7 +1,6 @@
 -- Each record passed has no mark.
-use mathlib.Core.Path.{◌≡◌, refl}
-use Prim.Native.Nat.{◌-◌}
-use lib.ListN.{length, length-set}
+use mathlib.Core.Path.{refl}
+use lib.ListN.{length-set}
 use Rattle.compaction.proofs.Marking.{cleared_none, cleared_more}
 use native.Mathlib.Omega.{arith}
 use Rattle.compaction.proofs.clear_marks.Goals as goal

@@ -1,5 +1,5 @@
 -- One store, of the record's mark.
-use Rattle.compaction.proofs.Marking.{mark_none, mark_some}
+use Rattle.compaction.proofs.Marking.{mark_some}
 use native.Mathlib.Omega.{arith}
 use Rattle.compaction.proofs.mark.Goals as goal
 

@@ -1,10 +1,10 @@
 -- The records that the places passed hold are marked, beside what was.
-use mathlib.Core.Path.{◌≡◌, refl, sym, ◌∙◌}
-use Prim.Native.Nat.{◌*◌, ◌-◌}
+use mathlib.Core.Path.{sym, ◌∙◌}
+use Prim.Native.Nat.{◌*◌}
 use native.Mathlib.Omega.{arith}
 use lib.ListN.{get_or}
 use Rattle.tokens.specs.Held.{some_held, none_held, held_is}
-use Rattle.compaction.proofs.Marking.{held_none, held_skip, held_more}
+use Rattle.compaction.proofs.Marking.{held_skip, held_more}
 use Rattle.compaction.proofs.mark_held.Goals.{then-has_token, else-has_token}
 use Rattle.compaction.proofs.mark_held.Goals as goal
 

@@ -1,10 +1,10 @@
 -- The places passed hold their records by the new numbers, and the others what they held.
-use mathlib.Core.Path.{◌≡◌, refl, sym, ◌∙◌}
-use Prim.Native.Nat.{◌*◌, ◌-◌}
+use mathlib.Core.Path.{sym, ◌∙◌}
+use Prim.Native.Nat.{◌*◌}
 use native.Mathlib.Omega.{arith}
 use lib.ListN.{get_or}
 use Rattle.tokens.specs.Held.{some_held, none_held, held_is}
-use Rattle.compaction.proofs.Compacting.{renumbered_none, renumbered_skip, renumbered_more}
+use Rattle.compaction.proofs.Compacting.{renumbered_skip, renumbered_more}
 use Rattle.compaction.proofs.renumber.Goals.{then-has_token, else-has_token}
 use Rattle.compaction.proofs.renumber.Goals as goal
 

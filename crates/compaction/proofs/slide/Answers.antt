@@ -1,6 +1,5 @@
 -- The marked ones among the records passed are the first n.
 use mathlib.Core.Path.{◌≡◌, refl, ◌∙◌}
-use Prim.Native.Nat.{◌-◌}
 use Rattle.records.specs.Layout.{store}
 use Rattle.compaction.proofs.Slides.{slid_none, next_low}
 use native.Mathlib.Omega.{arith}

@@ -1,9 +1,7 @@
 -- A record without a mark stays behind; one with a mark moves, slice by slice, with the new numbers of what it names.
-use mathlib.Core.Path.{◌≡◌, sym, ◌∙◌, ap}
-use Prim.Native.Nat.{◌+◌, ◌-◌}
-use Rattle.records.specs.Layout.{store, prev_at, kept_at}
-use Rattle.compaction.proofs.Slides.{one_stays, one_moves}
-use native.Mathlib.Omega.{arith}
+use mathlib.Core.Path.{◌∙◌}
+use Rattle.records.specs.Layout.{store}
+use Rattle.compaction.proofs.Slides.{one_moves}
 use Rattle.compaction.proofs.slide_one.Goals as goal
 
 pub returns : goal.returns

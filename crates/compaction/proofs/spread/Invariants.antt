@@ -1,6 +1,6 @@
 -- The records above the one at hand have handed their marks on.
 use mathlib.Core.Path.{◌≡◌}
-use Prim.Native.Nat.{◌≤◌, ◌-◌}
+use Prim.Native.Nat.{◌≤◌}
 use lib.ListN.{length}
 use Rattle.compaction.proofs.Marking.{Handed}
 use Rattle.compaction.proofs.spread.Given as goal

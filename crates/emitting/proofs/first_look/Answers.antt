@@ -4,7 +4,6 @@ use lib.Ieee.{Float}
 use Prim.Native.Nat.{ℕ, suc, ◌+◌, ◌-◌}
 use native.Mathlib.Omega.{arith}
 use lib.ListN.{length}
-use Rattle.lists.specs.Tests.{next_fits}
 use Rattle.emitting.specs.Look.{look_from, look_on, look_stops}
 use Rattle.emitting.proofs.first_look.Goals as goal
 

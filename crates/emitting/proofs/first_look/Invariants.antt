@@ -1,5 +1,5 @@
 -- The arcs below i have been looked at; the rest is what the definition does with the others.
-use mathlib.Core.Path.{◌≡◌, ap}
+use mathlib.Core.Path.{◌≡◌}
 use Prim.Native.Nat.{◌-◌, ◌≤◌}
 use lib.ListN.{length}
 use Rattle.model.specs.Basics.{∞}

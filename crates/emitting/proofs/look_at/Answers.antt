@@ -3,7 +3,6 @@ use mathlib.Core.Path.{◌≡◌, sym, ap₂, ◌∙◌}
 use native.Mathlib.Omega.{arith}
 use lib.ListN.{get_or}
 use lib.Ieee.{Float, nan}
-use borrow.Author.Tests.{not-true, not-false}
 use Rattle.lists.specs.Members.{get_d_any}
 use Rattle.model.specs.Basics.{◌⊕◌, ◌⊖◌, 0f}
 use Rattle.emitting.specs.Look.{look_total, look_skips, look_refuses, look_lowers}

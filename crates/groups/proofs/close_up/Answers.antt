@@ -1,14 +1,7 @@
 -- The first m are what was not dropped so far.
-use mathlib.Core.Path.{◌≡◌, refl, ap, ◌∙◌}
+use mathlib.Core.Path.{refl}
 use native.Mathlib.Omega.{arith}
-use Prim.Native.Nat.{ℕ, ◌-◌, ◌<◌}
-use mathlib.Core.Bool.{not}
-use lib.Dec.{eqb}
-use lib.ListN.{length, take}
-use Rattle.lists.specs.Lists.{keep_if}
-use Rattle.groups.specs.Firsts.{dropped}
-use Rattle.lists.specs.Tests.{next_fits}
-use Rattle.groups.specs.Laws.{closed_none, closed_next}
+use Rattle.groups.specs.Laws.{closed_next}
 use Rattle.groups.proofs.close_up.Goals as goal
 
 pub loop-i-preserved : goal.loop-i-preserved

@@ -1,7 +1,5 @@
 -- Those from the j-th sorted place on are judged, and what the others stand for is untouched.
-use native.Mathlib.Omega.{arith}
-use Prim.Native.Nat.{◌-◌}
-use Rattle.groups.specs.Laws.{dropped_none, repeats_asks, dropped_next}
+use Rattle.groups.specs.Laws.{dropped_next}
 use Rattle.groups.proofs.drop_repeats.Goals as goal
 
 pub loop-j-preserved : goal.loop-j-preserved

@@ -1,5 +1,4 @@
 -- Those from the j-th sorted place on are judged, and what the others stand for is untouched.
-use Prim.Native.Nat.{◌-◌}
 use Rattle.groups.specs.Laws.{DroppedTo}
 use Rattle.groups.proofs.drop_repeats.Given as goal
 

@@ -2,9 +2,8 @@
 use mathlib.Core.Path.{subst}
 use native.Mathlib.Omega.{arith}
 use mathlib.Core.Bool.{Bool}
-use Prim.Native.Nat.{◌-◌}
 use Rattle.histories.specs.Reading.{SameIs}
-use Rattle.groups.specs.Laws.{alone_none, other_key, no_other, same_found, alone_next}
+use Rattle.groups.specs.Laws.{other_key, no_other, same_found, alone_next}
 use Rattle.groups.proofs.repeats.Goals as goal
 
 pub returns-then-keys-i : goal.returns-then-keys-i

@@ -1,5 +1,4 @@
 -- From the next place before it on, none reads the same so far.
-use Prim.Native.Nat.{◌-◌}
 use Rattle.groups.specs.Laws.{AloneTo}
 use Rattle.groups.proofs.repeats.Given as goal
 

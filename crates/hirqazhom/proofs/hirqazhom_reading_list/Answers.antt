@@ -2,8 +2,5 @@
 
 use Rattle.hirqazhom.proofs.hirqazhom_reading_list.Goals as goal
 
-abbrev listed : goal.After-reading-count → goal.After-reading-list
-listed c = c.before.before.before.before.before.before.before.before.before.before.before.before.before.before.before.before.before.before.before.before.before.before.before.before.before.before.before.before.before.before.before.before.before.before.before.before.before.before.before.before.before.before
-
 pub returns : goal.returns
-returns c = record { answer = (listed c).reading-list.result; is = (listed c).reading-list.ensures; told = c.reading_count.ensures }
+returns c = record { answer = c.reading_list.result; is = c.reading_list.ensures; told = c.reading_count.ensures }

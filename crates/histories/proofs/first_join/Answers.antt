@@ -1,5 +1,5 @@
 -- No record that was passed is a join. The numbers fall.
-use Rattle.std.proofs.Common.{◌-◌, sym, refl, ◌∙◌, arith, rules}
+use Rattle.std.proofs.Common.{◌-◌, sym, ◌∙◌, arith}
 use Rattle.histories.specs.Laws.{join_at_lem, link_at_lem}
 use Rattle.histories.proofs.Steps.{at_start_lem}
 use Rattle.histories.proofs.first_join.Goals as goal

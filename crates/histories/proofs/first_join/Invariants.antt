@@ -1,5 +1,5 @@
 -- No record that was passed is a join. The numbers fall.
-use Rattle.std.proofs.Common.{◌≡◌, ℕ, ◌-◌, ◌≤◌, List}
+use Rattle.std.proofs.Common.{◌≡◌, ℕ, ◌≤◌, List}
 use lib.Ieee.{Float}
 use Rattle.records.specs.History.{History}
 use Rattle.records.specs.Layout.{store}

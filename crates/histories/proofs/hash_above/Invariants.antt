@@ -1,5 +1,4 @@
 -- The words passed are hashed, and those from the cursor down are to come. The numbers fall.
-use Rattle.std.proofs.Common.{◌-◌}
 use Rattle.histories.proofs.Steps.{Hashing}
 use Rattle.histories.proofs.hash_above.Given as goal
 

@@ -7,7 +7,6 @@ use lib.Ieee.{Float}
 use lib.Signed.{mag}
 use mir.Syntax.{w32}
 use mir.Val.{of_z, to_z}
-use borrow.Author.Tests.{not-true, not-false}
 use Rattle.model.specs.Ints.{back}
 use Rattle.records.specs.Layout.{Store}
 use Rattle.tokens.specs.declared.Token.{Token}

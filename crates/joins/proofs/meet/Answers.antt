@@ -1,8 +1,7 @@
 -- The invariant of both loops is `Walked`: what was passed shares nothing and keeps nothing that fits. The numbers fall.
 use Prim.Native.Nat.{◌-◌}
 use mathlib.Core.Path.{sym, ◌∙◌}
-use Rattle.joins.proofs.Steps.{walked_none, walked_won, walked_lost, walked_fits, walked_met}
-use borrow.Author.Rules.{rules}
+use Rattle.joins.proofs.Steps.{walked_won, walked_lost, walked_fits, walked_met}
 use native.Mathlib.Omega.{arith}
 use Rattle.joins.proofs.meet.Goals as goal
 

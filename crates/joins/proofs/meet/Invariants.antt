@@ -1,5 +1,4 @@
 -- The invariant of both loops is `Walked`: what was passed shares nothing and keeps nothing that fits. The numbers fall.
-use Prim.Native.Nat.{◌-◌}
 use Rattle.records.specs.Layout.{store}
 use Rattle.joins.proofs.Steps.{Walked}
 use Rattle.joins.proofs.meet.Given as goal

@@ -1,9 +1,8 @@
 -- The words from `r` down are the words from the cursor down, since no record that was passed has one.
 use Prim.Native.Nat.{◌-◌}
-use mathlib.Core.Path.{refl, ◌∙◌}
+use mathlib.Core.Path.{◌∙◌}
 use Rattle.model.specs.Ints.{nonzero_yes, nonzero_no}
 use Rattle.joins.proofs.Steps.{words_at, words_none}
-use borrow.Author.Rules.{rules}
 use native.Mathlib.Omega.{arith}
 use Rattle.joins.proofs.next_word.Goals as goal
 

@@ -5,7 +5,6 @@ use mir.Syntax.{w32}
 use mir.Val.{of_z}
 use Rattle.model.specs.Ints.{bits_eq}
 use Rattle.joins.proofs.Compare.{same_next, other_next, one_ends, next_is, ends_with, one_record}
-use borrow.Author.Rules.{rules}
 use native.Mathlib.Omega.{arith}
 use Rattle.joins.proofs.same_above.Goals as goal
 

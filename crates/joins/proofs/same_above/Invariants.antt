@@ -1,5 +1,5 @@
 -- The verdict on `won` and `lost` is that on the two cursors, which pass one word each in a turn, unless they are at one record.
-use Prim.Native.Nat.{ℕ, ◌-◌, ◌≤◌}
+use Prim.Native.Nat.{ℕ, ◌≤◌}
 use mathlib.Core.Path.{◌≡◌}
 use mathlib.Core.List.{List}
 use lib.Ieee.{Float}

@@ -1,11 +1,9 @@
 -- A word on top of the loser stands against the winner's newest.
-use Prim.Native.Nat.{◌-◌}
 use mathlib.Core.Path.{refl, sym, ap, ◌∙◌}
 use mir.Syntax.{w32}
 use mir.Val.{of_z}
-use Rattle.model.specs.Ints.{nonzero_yes, nonzero_no, bits_eq}
+use Rattle.model.specs.Ints.{nonzero_yes, bits_eq}
 use Rattle.joins.proofs.Compare.{same_next, other_next, one_ends, over_front, next_is}
-use native.Mathlib.Omega.{arith}
 use Rattle.joins.proofs.same_words.Goals as goal
 
 pub returns-then-a-met : goal.returns-then-a-met

@@ -2,7 +2,6 @@
 use mathlib.Core.Path.{sym, ap, ◌∙◌}
 use mathlib.Core.Bool.{not}
 use Rattle.model.specs.Ints.{back}
-use Rattle.joins.specs.Walk.{chains_of}
 use Rattle.joins.proofs.worth_keeping.Goals as goal
 
 pub returns-in-At : goal.returns-in-At

@@ -1,6 +1,5 @@
 -- The token's own path comes into hand; the pass reads no frame.
 use mathlib.Core.Path.{sym, ◌∙◌}
-use borrow.Author.Tests.{not-true, not-false}
 use Rattle.nonemitting.specs.Expand.{token_asks, expand_vacant, expand_cut, state_given, expand_goes}
 use Rattle.nonemitting.proofs.expand.Goals as goal
 

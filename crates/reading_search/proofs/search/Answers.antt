@@ -14,11 +14,11 @@ returns-then-has_word c =
     let l = c.loop-reading in
     let w = c.wide-end in
     let own = to_z-of_z w32 a.word c.ranges.word in
-    let here = found_here a.word a.ends.now a.words.now l.from l.reading w.result l.invariant c.loop-reading-test.true w.ensures (sym (rw own at c.has_word.ensures) ∙ c.if-has_word.true) in
+    let here = found_here a.word a.ends.now a.words.now l.from l.reading w.result (rw own at l.invariant) c.loop-reading-test.true w.ensures (sym (rw own at c.has_word.ensures) ∙ c.if-has_word.true) in
     rw (c.requires, here)
 
 pub returns : goal.returns
 unfolding first_reading
 returns c =
     let l = c.loop-reading in
-    rw (c.requires, found_nowhere c.args.word c.args.ends.now c.args.words.now l.from l.reading l.invariant (omega arith))
+    rw (c.requires, found_nowhere c.args.word c.args.ends.now c.args.words.now l.from l.reading (rw (to_z-of_z w32 c.args.word c.ranges.word) at l.invariant) (omega arith))

@@ -4,4 +4,4 @@ use Rattle.replay_graph.specs.Slices.{filled_slice}
 use Rattle.replay_graph.proofs.offsets_of.Goals as goal
 
 pub returns : goal.returns
-returns c = filled_slice _ _ _ _ _ _ c.fill_u32.result refl c.fill_u32.auto.1.1.0 c.fill_u32.ensures
+returns c = filled_slice _ _ _ _ _ _ c.fill_u32.result refl c.fill_u32.auto.out c.fill_u32.ensures

@@ -3,25 +3,25 @@ use mathlib.Core.Path.{refl}
 use Rattle.replay_reads.proofs.read.Goals as goal
 
 pub alternatives-requires : goal.alternatives-requires
-alternatives-requires c = (c.requires.0, c.requires.1.paths)
+alternatives-requires c = record { inside = c.requires.inside; paths_left = c.requires.reads_left.paths }
 
 pub returns-then-r-eq-ALTERNATIVES : goal.returns-then-r-eq-ALTERNATIVES
 returns-then-r-eq-ALTERNATIVES c = λ p q. c.alternatives.ensures (p c.if-r-eq-ALTERNATIVES.true)
 
 pub readings-requires : goal.readings-requires
-readings-requires c = (c.requires.0, c.requires.1.readings)
+readings-requires c = record { inside = c.requires.inside; list_left = c.requires.reads_left.readings }
 
 pub returns-then-r-eq-READINGS : goal.returns-then-r-eq-READINGS
 returns-then-r-eq-READINGS c = λ p q. let h = q c.if-r-eq-READINGS.true in c.readings.ensures h.0 h.1
 
 pub best-requires : goal.best-requires
-best-requires c = (c.requires.0, c.requires.1.best)
+best-requires c = record { inside = c.requires.inside; finals_left = c.requires.reads_left.best }
 
 pub returns-then-r-eq-BEST : goal.returns-then-r-eq-BEST
 returns-then-r-eq-BEST c = λ p q. refl
 
 pub say_number-requires : goal.say_number-requires
-say_number-requires c = c.requires.1.relative
+say_number-requires c = c.requires.reads_left.relative
 
 pub returns : goal.returns
 returns c = λ p q. refl

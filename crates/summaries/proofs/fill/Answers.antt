@@ -1,6 +1,5 @@
 -- The records below the one at hand are in the table.
-use Prim.Native.Nat.{◌-◌}
-use mathlib.Core.Path.{◌≡◌, refl, ◌∙◌}
+use mathlib.Core.Path.{refl}
 use Rattle.summaries.proofs.Table.{summed_none}
 use native.Mathlib.Omega.{arith}
 use Rattle.summaries.proofs.fill.Goals as goal

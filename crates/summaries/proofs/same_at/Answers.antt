@@ -1,6 +1,5 @@
 -- The ends are one where their records are; the words from the records skipped to decide then.
-use native.Mathlib.Omega.{arith}
-use Rattle.summaries.proofs.Same.{end_is, ends_apart, ends_one}
+use Rattle.summaries.proofs.Same.{ends_apart, ends_one}
 use Rattle.summaries.proofs.same_at.Goals as goal
 
 pub returns-then-end-end_at : goal.returns-then-end-end_at

@@ -1,7 +1,7 @@
 -- The record before it is in the table, and its own word stands on top of that one's.
 use mathlib.Core.Path.{◌∙◌}
 use Rattle.model.specs.Ints.{back}
-use Rattle.summaries.proofs.Table.{prev_under, summed_more}
+use Rattle.summaries.proofs.Table.{summed_more}
 use native.Mathlib.Omega.{arith}
 use Rattle.summaries.proofs.sum_record.Goals as goal
 

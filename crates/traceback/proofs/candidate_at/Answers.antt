@@ -1,7 +1,6 @@
 -- By whether its cost is finite.
 use mathlib.Core.Path.{sym, ap₂, ◌∙◌}
 use lib.Ieee.{Float}
-use borrow.Author.Tests.{not-false, not-true}
 use Rattle.tokens.specs.declared.Token.{Token as Stored}
 use Rattle.traceback.specs.Ranks.{candidate_of}
 use Rattle.traceback.specs.Ranking.{candidate_none, candidate_some}

@@ -3,7 +3,6 @@ use mathlib.Core.Path.{refl, sym, ap, ◌∙◌}
 use Prim.Native.Nat.{suc, ◌-◌}
 use native.Mathlib.Omega.{arith}
 use mathlib.Core.Bool.{Bool, ◌&&◌, ◌||◌}
-use borrow.Author.Tests.{not-false, not-true}
 use Rattle.model.specs.Reads.{any_final}
 use Rattle.traceback.specs.Table.{walk_start, walk_turn, walk_end, walk_here}
 use Rattle.traceback.proofs.finals_count.Goals as goal

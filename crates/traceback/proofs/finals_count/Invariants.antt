@@ -1,5 +1,5 @@
 -- No state passed is final.
-use mathlib.Core.Path.{◌≡◌, ap}
+use mathlib.Core.Path.{◌≡◌}
 use Prim.Native.Nat.{◌-◌}
 use mathlib.Core.List.{List}
 use lib.Ieee.{Float}

@@ -1,14 +1,12 @@
 -- The least of the states passed, from which the walk goes on.
 use mathlib.Core.Path.{◌≡◌, refl, sym, ap, ap₂, ◌∙◌}
-use Prim.Native.Nat.{ℕ, suc, ◌-◌}
+use Prim.Native.Nat.{suc, ◌-◌}
 use native.Mathlib.Omega.{arith}
 use mathlib.Core.List.{List}
 use lib.ListN.{get_or}
 use lib.Ieee.{Float, nan}
 use Rattle.real32.specs.Least.{fmin}
 use Rattle.model.specs.Basics.{◌⊕◌, ∞}
-use Rattle.model.specs.Graph.{Graph}
-use Rattle.model.specs.Path.{Table}
 use Rattle.model.specs.Reads.{least_from}
 use Rattle.tokens.specs.Layout.{Cell, cell_at}
 use Rattle.traceback.specs.Table.{walk_start, walk_turn, walk_end}

@@ -1,5 +1,5 @@
 -- The least of the states passed, from which the walk goes on.
-use mathlib.Core.Path.{◌≡◌, ap}
+use mathlib.Core.Path.{◌≡◌}
 use Prim.Native.Nat.{ℕ, ◌-◌}
 use lib.Ieee.{Float}
 use Rattle.model.specs.Basics.{∞}

@@ -5,25 +5,25 @@ use Rattle.replay_reads.specs.Reads.{reads_next}
 use Rattle.replay.proofs.decoding.answer.Goals as goal
 
 pub start_again-requires : goal.start_again-requires
-start_again-requires c = (held_asked c.requires.1.holds).start
+start_again-requires c = (held_asked c.requires.held.holds).start
 
 pub returns-then-r-eq-START : goal.returns-then-r-eq-START
-returns-then-r-eq-START c = c.start_again.ensures _ _ c.requires.1
+returns-then-r-eq-START c = c.start_again.ensures _ _ c.requires.held
 
 pub frame-requires : goal.frame-requires
-frame-requires c = frame_asked c.requires.1
+frame-requires c = frame_asked c.requires.held
 
 pub returns-then-r-eq-FRAME : goal.returns-then-r-eq-FRAME
-returns-then-r-eq-FRAME c = c.frame.ensures _ _ c.requires.1
+returns-then-r-eq-FRAME c = c.frame.ensures _ _ c.requires.held
 
 pub returns-then-r-eq-KEEP : goal.returns-then-r-eq-KEEP
-returns-then-r-eq-KEEP c = c.keep.ensures _ _ _ _ _ _ c.requires.1
+returns-then-r-eq-KEEP c = c.keep.ensures _ _ _ _ _ _ c.requires.held
 
 pub read-goes-requires : goal.read-goes-requires
-read-goes-requires c = (c.requires.0, reads_next c.requires.1)
+read-goes-requires c = record { inside = c.requires.inside; reads_left = reads_next c.requires.held }
 
 pub returns-then-goes : goal.returns-then-goes
-returns-then-goes c = c.requires.1
+returns-then-goes c = c.requires.held
 
 pub returns : goal.returns
 returns c = tt

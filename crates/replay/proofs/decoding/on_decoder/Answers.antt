@@ -25,13 +25,13 @@ pub loop-r-preserved-in-Left : goal.loop-r-preserved-in-Left
 loop-r-preserved-in-Left c = let h = rw c.in-Whole.is at (record_from _ _ _ c.record_at.ensures) in (omega (arith, h, c.loop-r.invariant.0), c.loop-r.invariant.1, c.loop-r.invariant.2)
 
 pub answer-requires : goal.answer-requires
-answer-requires c = ((rw c.in-Whole.is at (record_from _ _ _ c.record_at.ensures)).1, c.loop-r.invariant.1)
+answer-requires c = record { inside = (rw c.in-Whole.is at (record_from _ _ _ c.record_at.ensures)).1; held = c.loop-r.invariant.1 }
 
 pub loop-r-smaller : goal.loop-r-smaller
 loop-r-smaller c = let h = rw c.in-Whole.is at (record_from _ _ _ c.record_at.ensures) in omega (arith, h)
 
 pub loop-r-preserved : goal.loop-r-preserved
-loop-r-preserved c = let h = rw c.in-Whole.is at (record_from _ _ _ c.record_at.ensures) in (omega (arith, h, c.loop-r.invariant.0), answered_next _ _ _ _ _ _ _ _ _ _ c.answer.ensures c.in-Next.is c.answer.auto.1.1.1.1.1.1.1.1.0 c.answer.auto.1.1.1.1.1.1.1.1.1.0, record { tokens = c.answer.auto.labels ∙ c.loop-r.invariant.2.tokens; sums = c.answer.auto.gaps ∙ c.loop-r.invariant.2.sums; records = c.answer.auto.queue ∙ c.loop-r.invariant.2.records; labels = c.answer.auto.scratch ∙ c.loop-r.invariant.2.labels; gaps = c.answer.auto.1.1.1.1.1.1.1.0 ∙ c.loop-r.invariant.2.gaps; queue = c.answer.auto.1.1.1.1.1.1.1.1.0 ∙ c.loop-r.invariant.2.queue; scratch = c.answer.auto.1.1.1.1.1.1.1.1.1.0 ∙ c.loop-r.invariant.2.scratch })
+loop-r-preserved c = let h = rw c.in-Whole.is at (record_from _ _ _ c.record_at.ensures) in (omega (arith, h, c.loop-r.invariant.0), answered_next _ _ _ _ _ _ _ _ _ _ c.answer.ensures c.in-Next.is c.answer.auto.queue c.answer.auto.scratch, record { tokens = c.answer.auto.tokens ∙ c.loop-r.invariant.2.tokens; sums = c.answer.auto.sums ∙ c.loop-r.invariant.2.sums; records = c.answer.auto.records ∙ c.loop-r.invariant.2.records; labels = c.answer.auto.labels ∙ c.loop-r.invariant.2.labels; gaps = c.answer.auto.gaps ∙ c.loop-r.invariant.2.gaps; queue = c.answer.auto.queue ∙ c.loop-r.invariant.2.queue; scratch = c.answer.auto.scratch ∙ c.loop-r.invariant.2.scratch })
 
 pub returns-in-Over : goal.returns-in-Over
 returns-in-Over c = tt

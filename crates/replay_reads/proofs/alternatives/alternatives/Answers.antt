@@ -8,19 +8,19 @@ pub returns-then-not-shaped : goal.returns-then-not-shaped
 returns-then-not-shaped c = λ e. refl
 
 pub asked-requires : goal.asked-requires
-asked-requires c = c.requires.0
+asked-requires c = c.requires.inside
 
 pub asked-requires-2 : goal.asked-requires-2
-asked-requires-2 c = c.requires.0
+asked-requires-2 c = c.requires.inside
 
 pub asked-requires-3 : goal.asked-requires-3
-asked-requires-3 c = c.requires.0
+asked-requires-3 c = c.requires.inside
 
 pub asked-requires-4 : goal.asked-requires-4
-asked-requires-4 c = c.requires.0
+asked-requires-4 c = c.requires.inside
 
 pub overflow_add-r : goal.overflow_add-r
-overflow_add-r c = record { fits = omega (arith, c.requires.0, c.well_formed.0.1) }
+overflow_add-r c = record { fits = omega (arith, c.requires.inside, c.well_formed.0.1) }
 
 pub slice_bounds-words-end : goal.slice_bounds-words-end
 slice_bounds-words-end c = omega (arith, c.least-n.ensures.1, c.list_words-words.ensures)
@@ -59,10 +59,10 @@ pub slice_bounds-list_paths-end-5 : goal.slice_bounds-list_paths-end-5
 slice_bounds-list_paths-end-5 c = sym (length-take-le _ _ (omega (arith, c.least-e.ensures.1, c.list_costs-costs.ensures)))
 
 pub list_paths-listed-requires : goal.list_paths-listed-requires
-list_paths-listed-requires c = c.requires.1
+list_paths-listed-requires c = c.requires.paths_left
 
 pub say_unlisted-requires : goal.say_unlisted-requires
-say_unlisted-requires c = c.requires.0
+say_unlisted-requires c = c.requires.inside
 
 pub returns-in-Refused : goal.returns-in-Refused
 returns-in-Refused c = c.say_unlisted.ensures

@@ -14,4 +14,4 @@ pub slice_bounds-answer_best-end-3 : goal.slice_bounds-answer_best-end-3
 slice_bounds-answer_best-end-3 c = sym (length-take-le _ _ (omega (arith, c.least-m.ensures.1, c.path_segments-segments.ensures)))
 
 pub answer_best-requires : goal.answer_best-requires
-answer_best-requires c = c.requires.1
+answer_best-requires c = c.requires.finals_left

@@ -7,13 +7,13 @@ pub returns-then-not-shaped : goal.returns-then-not-shaped
 returns-then-not-shaped c = λ e f. refl
 
 pub overflow_add-r : goal.overflow_add-r
-overflow_add-r c = record { fits = omega (arith, c.requires.0, c.well_formed.0.1) }
+overflow_add-r c = record { fits = omega (arith, c.requires.inside, c.well_formed.0.1) }
 
 pub overflow_add-r-2 : goal.overflow_add-r-2
-overflow_add-r-2 c = record { fits = omega (arith, c.requires.0, c.well_formed.0.1) }
+overflow_add-r-2 c = record { fits = omega (arith, c.requires.inside, c.well_formed.0.1) }
 
 pub lengths_of-requires : goal.lengths_of-requires
-lengths_of-requires c = c.requires.0
+lengths_of-requires c = c.requires.inside
 
 pub slice_bounds-list_readings-end : goal.slice_bounds-list_readings-end
 slice_bounds-list_readings-end c = c.reading_words-words.ensures
@@ -31,10 +31,10 @@ pub slice_bounds-list_readings-end-5 : goal.slice_bounds-list_readings-end-5
 slice_bounds-list_readings-end-5 c = c.reading_costs-costs.ensures
 
 pub list_readings-list-requires : goal.list_readings-list-requires
-list_readings-list-requires c = (c.requires.1, (c.lengths_of.ensures.within, record { words_are = c.reading_words-words.ensures; frames_are = c.list_frames-frames.ensures; segments_are = c.list_segments-segments.ensures; numbers_are = c.reading_numbers-numbers.ensures; costs_are = c.reading_costs-costs.ensures }))
+list_readings-list-requires c = record { list_left = c.requires.list_left; lengths_within = (c.lengths_of.ensures.within, record { words_are = c.reading_words-words.ensures; frames_are = c.list_frames-frames.ensures; segments_are = c.list_segments-segments.ensures; numbers_are = c.reading_numbers-numbers.ensures; costs_are = c.reading_costs-costs.ensures }) }
 
 pub say_unread-requires : goal.say_unread-requires
-say_unread-requires c = c.requires.0
+say_unread-requires c = c.requires.inside
 
 pub returns-in-Readings : goal.returns-in-Readings
 returns-in-Readings c = λ e f. refl
