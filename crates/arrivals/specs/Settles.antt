@@ -37,7 +37,7 @@ use Rattle.arrivals.specs.declared.PutOn.{PutOn}
 use Rattle.arrivals.specs.declared.PutOn.TheVariants.{Refused as NotOn, On}
 use Rattle.arrivals.specs.Arrival.{ArrivalIs, links, starts_of, starts_is, meets_at}
 use Rattle.arrivals.specs.PutOn.{PutOnIs}
-use Rattle.arrivals.specs.Winner.{WonBy, won as won-by}
+use Rattle.arrivals.specs.Winner.{WonBy, won as won_by}
 use Rattle.arrivals.specs.Settled.{SettledIs, settled_fills, settled_beats, settled_loses, margin_in, with_link, new_token, next_seq, FillIs, fill_refused, fill_wins, won_with, BeatIs, beat_refused, beat_wins, lost_with, LoseIs, lose_keeps}
 
 -- What is known where an arc's total has passed the cutoff: the code's values are the model's, and of the store either two more records have places or all are live, unless no record can be wanted.
@@ -109,7 +109,7 @@ module _ (H : Here) (P : Pass) (t : Token) (arc : Arc) (w : Work) (g : Setting) 
 
     on_by : (r : PutOn) → PutOnIs s.records rs' s.labels ls' g k.used x a r
         → WonBy H P t arc w g x a S.arrival S.phone S.frame s.records rs' s.labels ls' s.gaps k.used h S.stands S.hand S.newest S.fits exact r
-    on_by = won-by H P t arc w g x a S.arrival S.phone S.frame s.records rs' s.labels ls' s.gaps k.used h S.stands S.hand S.newest S.fits exact
+    on_by = won_by H P t arc w g x a S.arrival S.phone S.frame s.records rs' s.labels ls' s.gaps k.used h S.stands S.hand S.newest S.fits exact
 
     pub fills_is : suc w.seq < 2 ^ 32 → (r : Settled) → FillIs s.records rs' s.labels ls' g k x a r → Ends s' (settle H P t arc w vacant) r
     unfolding settle fills

@@ -37,7 +37,7 @@ use Rattle.copy_laws.proofs.Below.{below_keyed}
 use Rattle.copy_laws.proofs.Costs.{fair_margin_lem, readings_sure}
 use Rattle.copy_laws.proofs.Bounds.{below_bounded}
 use Rattle.copy_laws.specs.Groups.{group_order, group_map, best_of}
-use Rattle.copy_laws.proofs.Groups.{grouped_right, best_right as best-right-of}
+use Rattle.copy_laws.proofs.Groups.{grouped_right, best_right as best_right_of}
 use Rattle.copy_laws.specs.Traces.{own_recs, own_trace, NeverMerges}
 use Rattle.copy_laws.proofs.Traces.{own_merges_none, own_trace_lem}
 use Rattle.copy_laws.specs.Told.{told_of, limited_answers, limited_after, tell}
@@ -168,7 +168,7 @@ module _ (g : Graph) (c : Config) (passed : check_graph g ≡ none) (floats : Fl
 
   -- `best_token`
   pub best_token_right : (ks : List (Call × ℕ)) (f : Bool) → let st = (reached g c ks).state in best_of (rank_from g (use_finals g st f) 0 st.table) ≡ best_token g st f
-  best_token_right ks f = best-right-of g (checked g passed) floats (reached g c ks).heard (reached g c ks).state (reached_stands g c passed floats ks).standing.active f
+  best_token_right ks f = best_right_of g (checked g passed) floats (reached g c ks).heard (reached g c ks).state (reached_stands g c passed floats ks).standing.active f
 
   -- `trace`: on the own path of an active token no record starts the phone that is open, so that the branch of `trace_route` that goes on with the open segment is never taken there
   pub trace_never_merges : (ks : List (Call × ℕ)) (s : ℕ) (t : Token) → At (reached g c ks).state.table s t → NeverMerges (pos 0) (own_recs t.path [])

@@ -9,5 +9,4 @@ pub mod Keep
 pub mod Fit
 pub mod Capacity
 pub mod Held
-pub mod Alike
 pub mod Says

@@ -40,7 +40,8 @@ use Rattle.decoder.specs.declared.Fitted.{Fitted}
 use Rattle.decoder.specs.Represents.{limits_by, limits_by_lem, exact, refusal_of, CalledBy, called_refused}
 use Rattle.decoder.specs.Promises.{StartIs, FrameIs, keep_of, fitted_by, FitIs, fit_graph, fit_unfit, fit_called, ActiveIs, RelativeCostIs, BestPathIs, AlternativesIs, holding, ReadingsIs}
 use Rattle.decoder.specs.Behaves.{answer_of as said_of, value_of, Behaves, start_behaves, frame_behaves, keep_behaves, best_behaves, alternatives_behaves, readings_behaves, relative_behaves, active_behaves, frames_behaves, none_yet, one_more}
-use Rattle.decoder.specs.Alike.{Stand, behaves_follows, runs_limited, first_follows, decoder_limited}
+use Rattle.decoder.proofs.Alike.{behaves_follows}
+use Rattle.decoder.proofs.Alike.{Stand, runs_limited, first_follows, decoder_limited}
 use Rattle.decoder.specs.Demand3.{FittedAs, Fitting as Fit, settings, RunsFrom, calls}
 use Rattle.c_answers.specs.declared.Verdict.{Verdict}
 use Rattle.c_answers.specs.declared.Fitting.{Fitting}

@@ -14,7 +14,8 @@ use Rattle.decoder.specs.declared.Fitted.{Fitted}
 use Rattle.decoder.specs.declared.Fitted.TheVariants.{Done as FitDone}
 use Rattle.decoder.specs.Promises.{FrameIs, FitIs, FrameLeft}
 use Rattle.decoder.specs.Behaves.{value_of}
-use Rattle.decoder.specs.Held.{Held, HeldFitted, held_asked, call_held, fit_held}
+use Rattle.decoder.specs.Held.{Held, HeldFitted}
+use Rattle.decoder.proofs.Held.{held_asked, call_held, fit_held}
 
 -- of the slices that the fitting has judged, frames need a scratch that is as long
 pub record Hearing (T : Tables) (m : Lent) (finals : List Float) (eps : List ℕ) (places scratch : ℕ) (d : Decoder) : Type 0 where

@@ -15,7 +15,8 @@ use Rattle.decoder.specs.declared.Fitted.{Fitted}
 use Rattle.decoder.specs.declared.Fitted.TheVariants.{Unfit, Done, Refused}
 use Rattle.decoder.specs.Promises.{Promised, FitIs, FrameLeft}
 use Rattle.decoder.specs.Behaves.{value_of}
-use Rattle.decoder.specs.Held.{Held as Holds, HeldFitted as HoldsFitted, held_asked, call_held as call-holds, fit_held as fit-holds}
+use Rattle.decoder.specs.Held.{Held as Holds, HeldFitted as HoldsFitted}
+use Rattle.decoder.proofs.Held.{held_asked, call_held as call_holds, fit_held as fit_holds}
 
 -- of the slices that the fitting has judged: a frame's scratch, and one for each state and one for each record of the program's own
 pub record Held (T : Tables) (m : Lent) (finals : List Float) (eps : List ℕ) (places scratch : ℕ) (d : Decoder) : Type 0 where
@@ -44,11 +45,11 @@ module _ {T : Tables} {m : Lent} {finals : List Float} {eps : List ℕ} {places 
 
   -- a call hands it on
   pub call_held : {m' : Lent} (k : Call) (r : Called) → Promised T m m' eps places k d r → Held T m' finals eps places scratch (value_of r)
-  call_held k r P = record { lengths = H.lengths; holds = call-holds k refl P H.holds; as_long = H.as_long; own_are = H.own_are; routes_are = H.routes_are }
+  call_held k r P = record { lengths = H.lengths; holds = call_holds k refl P H.holds; as_long = H.as_long; own_are = H.own_are; routes_are = H.routes_are }
 
 -- and a fitting gives it
 pub fit_held : {g : Graph} {T : Tables} {m m' : Lent} {l : Lengths} {qs qs' eps eps' : List ℕ} {c : Config} (f : Fitted) → l.own ≡ 4096 → l.route ≡ 8192 → FitIs g T m m' l qs qs' eps eps' c f → HeldFitted T m' g.finals eps' (length qs) l.scratch f
-fit_held {g} {T} {m' = m'} {l} {qs} {eps' = eps'} f o r F = go f (fit-holds F)
+fit_held {g} {T} {m' = m'} {l} {qs} {eps' = eps'} f o r F = go f (fit_holds F)
   where
     go : (f : Fitted) → HoldsFitted T m' g.finals eps' (length qs) l f → HeldFitted T m' g.finals eps' (length qs) l.scratch f
     go (Unfit x) H = tt

@@ -9,7 +9,7 @@ use Rattle.checks.specs.Fit.{Wide}
 use Rattle.places.specs.Places.{least, kept_places}
 use Rattle.decoder.specs.declared.Decoder.{Decoder}
 use Rattle.decoder.specs.Promises.{FinalsLeft, RelativeLeft, AlternativesLeft, GapsLeft, ReadingsLeft}
-use Rattle.decoder.specs.Held.{held_asked}
+use Rattle.decoder.proofs.Held.{held_asked}
 use Rattle.script.specs.declared.Record.{Record}
 use Rattle.replay_places.specs.Held.{Held, few_states, few_records}
 use Rattle.replay_payloads.specs.declared.Loan.{Loan}

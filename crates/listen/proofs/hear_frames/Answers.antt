@@ -3,7 +3,7 @@ use mathlib.Core.Path.{refl, ◌∙◌}
 use Prim.Native.Nat.{◌-◌}
 use lib.ListN.{length}
 use Rattle.stores.specs.Rep.{lent, lens_self, lens_then}
-use Rattle.decoder.specs.Held.{held_asked}
+use Rattle.decoder.proofs.Held.{held_asked}
 use Rattle.listen.specs.Held.{frame_asked, frame_hears}
 use native.Mathlib.Omega.{arith}
 use Rattle.listen.proofs.hear_frames.Goals as goal

@@ -1,5 +1,5 @@
 -- `replay::decoding::answer` meets its contract: whatever is answered, the decoder and its stores are as a call leaves them.
-use Rattle.decoder.specs.Held.{held_asked}
+use Rattle.decoder.proofs.Held.{held_asked}
 use Rattle.replay_places.specs.Held.{frame_asked}
 use Rattle.replay_reads.specs.Reads.{reads_next}
 use Rattle.replay.proofs.decoding.answer.Goals as goal

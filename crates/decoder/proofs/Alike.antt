@@ -26,7 +26,7 @@ use Rattle.decoder.specs.Promises.{Promised, fitted_by, FitIs, fit_graph, fit_un
 use Rattle.decoder.specs.Capacity.{cap_fixed}
 use Rattle.decoder.specs.Keep.{keep_is, frames_is}
 use Rattle.decoder.specs.Behaves.{answer_of, value_of, Behaves, start_behaves, frame_behaves, keep_behaves, best_behaves, alternatives_behaves, readings_behaves, relative_behaves, active_behaves, frames_behaves, Runs, none_yet, one_more}
-use Rattle.decoder.specs.Held.{fitting_held}
+use Rattle.decoder.proofs.Held.{fitting_held}
 use Rattle.decoder.specs.Demand3.{FittedAs, Fitting, settings, calls, told, AnswersLimited, AnswersAlike}
 
 module _ (g : Graph) (c : Settings) (T : Tables) (eps : List ℕ) (places : ℕ) where
