@@ -10,7 +10,6 @@ use mathlib.Core.List.Memᴰ.{tail as there}
 use mathlib.Core.List.{List, [], ◌∷◌, ◌++◌, map}
 use Rattle.std.proofs.Math.ListN.{take}
 use Rattle.std.specs.Float.Ieee.{add, of_bits, le, lt}
-use Rattle.std.proofs.lemmas.Bool.{not-true}
 use Rattle.lists.specs.Tests.{case, holds, is_false}
 use Rattle.lists.specs.Lists.{◌∈◌, keep_if, insert_by, sort_by, firsts}
 use Rattle.lists.specs.Members.{take_from, keep_from, sort_from, firsts_from, map_from}

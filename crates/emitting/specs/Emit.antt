@@ -1,5 +1,5 @@
 -- The emitting pass: what it is given, and what it leaves. Assumes nothing.
-use Rattle.std.specs.Prelude.{◌≡◌, refl, ℕ, suc, ◌+◌, ◌-◌, ◌≤◌, ◌<◌, Bool, true, false, pos, length, get_or, Float}
+use Rattle.std.specs.Prelude.{◌≡◌, refl, ℕ, suc, ◌+◌, ◌-◌, ◌≤◌, ◌<◌, Bool, true, false, length, get_or, Float}
 use Rattle.std.proofs.Common.{sym, ◌∙◌, arith, drop-cons}
 use Rattle.std.proofs.Math.Path.{ap, subst}
 use Rattle.std.proofs.Math.Option.{Option, none, some}
@@ -11,8 +11,8 @@ use Rattle.model.specs.Path.{Path, Token, Table}
 use Rattle.model.specs.Arrive.{Pass as ModelPass, Here, Work as ModelWork, arrive_all}
 use Rattle.model.specs.Passes.{emit_from}
 use Rattle.tokens.specs.declared.Token.{Token as Stored}
-use Rattle.tokens.specs.Layout.{place_in, held_at, cell_at, cell_of, token_of, NextActive}
-use Rattle.stores.specs.Shown.{Is, TokenIs}
+use Rattle.tokens.specs.Layout.{place_in, held_at, cell_at, token_of, NextActive}
+use Rattle.stores.specs.Shown.{TokenIs}
 use Rattle.stores.specs.Tables.{Active, active_at, stored_is, skip_to}
 use Rattle.stores.specs.Rep.{Lent}
 use Rattle.arrivals.specs.declared.Setting.{Setting}

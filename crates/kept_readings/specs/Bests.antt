@@ -19,6 +19,7 @@ module _ {A : Type 0} (same : A → A → Bool) where
     out_there : {y : A} {ys zs : List A} → Out x ys zs → Out x (y ∷ ys) (y ∷ zs)
 
   out_of : (x : A) (ys : List A) → x ∈ ys → (zs : List A) × Out x ys zs
+  out_of x [] x'' = elim x'' [ ]
   out_of x (y ∷ ys) (here e) = (ys, out_here e)
   out_of x (y ∷ ys) (there m) = let (zs, o) = out_of x ys m in (y ∷ zs, out_there o)
 
@@ -187,7 +188,7 @@ module _ {A : Type 0} (same sooner : A → A → Bool) where
     bests_from p xs [] q B = bests_as (λ x i. inl i) (λ x w. case w (λ i. i) (λ m. elim m [ ])) B
     bests_from {In} p xs (k ∷ ks) q B =
         bests_as (λ x w. case w (λ i. case i (λ e. inr (here e)) (λ j. inl j)) (λ m. inr (there m))) (λ x w. case w (λ i. inl (inr i)) (λ m. front x m))
-        (bests_from (λ x i. case i (λ e. subst P (sym e) (q k (here refl))) (p x)) (add_to same sooner k xs) ks (λ x m. q x (there m)) (bests_next p B k (q k (here refl))))
+        (bests_from {In = λ x. (x ≡ k) ⊎ In x} (λ x i. case i (λ e. subst P (sym e) (q k (here refl))) (p x)) (add_to same sooner k xs) ks (λ x m. q x (there m)) (bests_next p B k (q k (here refl))))
       where
         front : (x : A) → x ∈ (k ∷ ks) → ((x ≡ k) ⊎ In x) ⊎ (x ∈ ks)
         front x (here e) = inl (inl e)

@@ -77,6 +77,7 @@ module _ {A : Type 0} where
 
   -- one entry of a key
   pub one_of : {K : Type 0} (key : A → K) (xs : List A) → Nodup (map key xs) → (x y : A) → x ∈ xs → y ∈ xs → key x ≡ key y → x ≡ y
+  one_of {K = K} key [] n x y x6 _ e = elim x6 [ ]
   one_of key (z ∷ xs) n x y (here p) (here q) e = p ∙ sym q
   one_of {K} key (z ∷ xs) n x y (here p) (there k) e = absurd (n.0 (subst (λ (j : K). j ∈ map key xs) (sym e ∙ ap key p) (map_to key xs y k)))
   one_of {K} key (z ∷ xs) n x y (there m) (here q) e = absurd (n.0 (subst (λ (j : K). j ∈ map key xs) (e ∙ ap key q) (map_to key xs x m)))
@@ -84,6 +85,7 @@ module _ {A : Type 0} where
 
   -- one entry of a class
   pub apart_one : (same : A → A → Bool) (xs : List A) → Apart same xs → (x y : A) → x ∈ xs → y ∈ xs → same x y ≡ true → same y x ≡ true → x ≡ y
+  apart_one same [] a x y x7 _ e f = elim x7 [ ]
   apart_one same (z ∷ xs) a x y (here p) (here q) e f = p ∙ sym q
   apart_one same (z ∷ xs) a x y (here p) (there n) e f = never (sym (a.0 y n) ∙ ap (same y) (sym p) ∙ f)
   apart_one same (z ∷ xs) a x y (there m) (here q) e f = never (sym (a.0 x m) ∙ ap (same x) (sym q) ∙ e)

@@ -1,5 +1,5 @@
 -- One popped state: its token's arcs, unless the token is at or above the cutoff. Assumes nothing.
-use Rattle.std.specs.Prelude.{◌≡◌, ℕ, suc, ◌+◌, ◌-◌, ◌*◌, ◌≤◌, ◌<◌, Bool, true, false, List, [], ltb, ℤ, length, get_or, Float}
+use Rattle.std.specs.Prelude.{◌≡◌, ℕ, ◌+◌, ◌*◌, ◌≤◌, ◌<◌, Bool, true, false, List, [], ltb, ℤ, length, get_or, Float}
 use Rattle.std.proofs.Math.Path.{sym, ap, subst}
 use Rattle.std.proofs.Common.{◌∙◌, arith}
 use Rattle.std.proofs.Math.Option.{Option, none}
@@ -9,7 +9,7 @@ use Rattle.model.specs.Path.{Path, Token, Table}
 use Rattle.model.specs.Arrive.{nonemitting, Here, Work as ModelWork, arrive_all}
 use Rattle.model.specs.Passes.{expand}
 use Rattle.tokens.specs.declared.Token.{Token as Stored}
-use Rattle.tokens.specs.Layout.{cell_at, cell_of, held_at, place_in, token_of}
+use Rattle.tokens.specs.Layout.{cell_at, held_at, place_in, token_of}
 use Rattle.tokens.specs.Held.{some_held, none_held}
 use Rattle.stores.specs.Shown.{Is, Shown}
 use Rattle.stores.specs.Tables.{Active, active_at, stored_is, vacant_at}

@@ -1,5 +1,5 @@
 -- What a contract says of lent slices whose contents it does not fix. Assumes nothing.
-use Rattle.std.specs.Prelude.{◌≡◌, refl, List, length}
+use Rattle.std.specs.Prelude.{◌≡◌, List, length}
 
 -- the contents are left to the program, the length is not
 pub record LeftToProgram {A : Type 0} (before after : List A) : Type 0 where

@@ -13,7 +13,7 @@ use Rattle.model.specs.Basics.{◌⊕◌, 0f, ∞}
 use Rattle.model.specs.Graph.{Graph, final_weight}
 use Rattle.model.specs.Path.{Token as Model, Table}
 use Rattle.model.specs.Reads.{Ranked, rank_one, rank_from, sooner, ranked}
-use Rattle.tokens.specs.Layout.{cell_at, cell_of, token_of, held_at, place_in}
+use Rattle.tokens.specs.Layout.{held_at, place_in}
 use Rattle.tokens.specs.Held.{some_held, none_held}
 use Rattle.records.specs.History.{History}
 use Rattle.stores.specs.Shown.{TokenIs, Shown}

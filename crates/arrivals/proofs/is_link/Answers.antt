@@ -6,12 +6,12 @@ use Rattle.model.specs.Ints.{nonzero_yes, nonzero_no}
 use Rattle.arrivals.proofs.is_link.Goals as goal
 
 -- a u32 is not 0
-pos-nonzero : (n : ℕ) → not (eqb n 0) ≡ nonzero (pos n)
-pos-nonzero zero = refl
-pos-nonzero (suc n) = rw (eqb-suc-zero n)
+pos_nonzero : (n : ℕ) → not (eqb n 0) ≡ nonzero (pos n)
+pos_nonzero zero = refl
+pos_nonzero (suc n) = rw (eqb-suc-zero n)
 
 pub returns-then-word-ne0 : goal.returns-then-word-ne0
 returns-then-word-ne0 c = rw (nonzero_yes c.args.a.word c.if-word-ne0.true)
 
 pub returns : goal.returns
-returns c = let z = c.args.a.word in rw (nonzero_no z (record { sfits = search }) c.if-word-ne0.false) (pos-nonzero c.starts.result ∙ ap (λ (n : ℕ). nonzero (pos n)) c.starts.ensures)
+returns c = let z = c.args.a.word in rw (nonzero_no z (record { sfits = search }) c.if-word-ne0.false) (pos_nonzero c.starts.result ∙ ap (λ (n : ℕ). nonzero (pos n)) c.starts.ensures)

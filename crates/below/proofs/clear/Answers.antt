@@ -1,7 +1,7 @@
 -- The two numbers of each record passed are 0.
 use mathlib.Core.Path.{◌≡◌, refl, ◌∙◌}
 use Prim.Native.Nat.{◌-◌, ◌*◌, ◌+◌}
-use lib.ListN.{length, set, length-set}
+use lib.ListN.{set, length-set}
 use Rattle.below.proofs.Marking.{cleared_none, cleared_more}
 use native.Mathlib.Omega.{arith}
 use Rattle.below.proofs.clear.Goals as goal

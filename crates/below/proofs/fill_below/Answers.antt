@@ -1,5 +1,4 @@
 -- The wanted lists are those of the visited joins.
-use mathlib.Core.Path.{◌∙◌}
 use Rattle.below.proofs.Filled.{lists_ask, below_is}
 use native.Mathlib.Omega.{arith}
 use Rattle.below.proofs.fill_below.Goals as goal

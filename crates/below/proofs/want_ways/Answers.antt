@@ -1,6 +1,5 @@
 -- Two joins, where the record is wanted.
 use Prim.Native.Nat.{◌-◌}
-use mathlib.Core.Path.{refl, ◌∙◌}
 use Rattle.below.proofs.Marking.{ways_none, ways_wanted}
 use borrow.Author.Rules.{rules}
 use native.Mathlib.Omega.{arith}

@@ -1,6 +1,6 @@
 -- What stands, and of what is to come the new ones, make the list.
-use Rattle.std.proofs.Common.{◌-◌, ◌∙◌, arith}
-use Rattle.entries.specs.Filling.{few_paths, fill_none, room_left, next_asks, pick_asks, fill_moved, fill_full, fill_cap, fill_end, moves_one}
+use Rattle.std.proofs.Common.{◌-◌, arith}
+use Rattle.entries.specs.Filling.{few_paths, fill_none, next_asks, pick_asks, fill_moved, fill_full, fill_cap, fill_end}
 use Rattle.entries.proofs.fill_list.Goals as goal
 
 pub loop-i-init : goal.loop-i-init

@@ -1,7 +1,7 @@
 -- None so far has the words.
-use Rattle.std.proofs.Common.{◌-◌, subst, arith}
+use Rattle.std.proofs.Common.{◌-◌, subst}
 use Rattle.entries.specs.Entries.{SameKeyIs}
-use Rattle.entries.specs.Laws.{key_none, key_found, key_next, key_all}
+use Rattle.entries.specs.Laws.{key_found, key_next}
 use Rattle.entries.proofs.has_key.Goals as goal
 
 pub returns-then-same_key : goal.returns-then-same_key

@@ -1,6 +1,6 @@
 -- The margin cuts none so far.
 use Rattle.std.proofs.Common.{◌-◌, arith}
-use Rattle.entries.specs.Laws.{uncut_none, uncut_next, cut_at, uncut_all}
+use Rattle.entries.specs.Laws.{uncut_next, cut_at, uncut_all}
 use Rattle.entries.proofs.within.Goals as goal
 
 pub returns-then-margin-b : goal.returns-then-margin-b

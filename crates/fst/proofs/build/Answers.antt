@@ -7,7 +7,6 @@ use native.Mathlib.Omega.{arith}
 use lib.IntN.{ℤ}
 use lib.Ieee.{Float}
 use Rattle.model.specs.Graph.{Graph, shape_wrong, start_wrong}
-use Rattle.model.specs.Checked.{GoodShape}
 use Rattle.model.proofs.Checked.{good_shape}
 use Rattle.fst.specs.Answer.{graph_of, found_of}
 use Rattle.fst.proofs.States.{words_unread}

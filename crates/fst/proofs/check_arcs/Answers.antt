@@ -1,6 +1,6 @@
 -- `fst::check_arcs` meets its contract. The invariant: the whole answer is that of the arcs ahead.
 use borrow.Author.Rules.{rules}
-use mathlib.Core.Path.{◌≡◌, ◌∙◌, ap}
+use mathlib.Core.Path.{◌∙◌, ap}
 use native.Mathlib.Omega.{arith}
 use lib.IntN.{pos}
 use lib.ListN.{get_or}

@@ -14,7 +14,7 @@ use Rattle.model.specs.Basics.{ltℤ, nonzero, nowhere}
 use Rattle.model.specs.Graph.{refuse_at}
 use Rattle.fst.specs.Answer.{number_of}
 use Rattle.fst.proofs.Labels.{label_number, negative, epsilon, past_pdfs, past_phones, pdf_negative, pdf_over, by_phone}
-use Rattle.model.specs.Ints.{back, nonzero_yes, nonzero_no, as_defined, tested, casts, at_least, less}
+use Rattle.model.specs.Ints.{back, nonzero_yes, nonzero_no, as_defined, tested, at_least, less}
 use Rattle.fst.proofs.check_label.Goals as goal
 
 module _ (p h : List ℤ) (n : ℕ) (z : ℤ) (f : SFits w32 z) where

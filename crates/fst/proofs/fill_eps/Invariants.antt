@@ -1,10 +1,10 @@
 -- `fst::fill_eps` meets its contract. The invariant: the table is filled below the state, and behind it unchanged.
-use mathlib.Core.Path.{◌≡◌, ap}
+use mathlib.Core.Path.{◌≡◌}
 use mathlib.Core.List.{◌++◌}
 use Prim.Native.Nat.{◌≤◌, ◌-◌}
-use lib.ListN.{length, drop, set}
+use lib.ListN.{length, drop}
 use Rattle.model.specs.Graph.{Graph}
-use Rattle.fst.specs.Epsilons.{bit, eps_bits}
+use Rattle.fst.specs.Epsilons.{eps_bits}
 use Rattle.fst.proofs.fill_eps.Given as goal
 
 abbrev pub invariant-loop-s : goal.invariant-loop-s

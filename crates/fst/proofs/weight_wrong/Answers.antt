@@ -1,5 +1,4 @@
 -- `fst::weight_wrong` meets its contract: its tests are the definition's.
-use borrow.Author.Tests.{not-true, not-false}
 use mathlib.Core.Path.{sym, ◌∙◌}
 use lib.Ieee.{of_bits}
 use Rattle.model.specs.Graph.{weight_wrong}

@@ -1,5 +1,5 @@
 -- Those before the i-th are added.
-use Rattle.std.proofs.Common.{◌-◌, ◌∙◌, arith}
+use Rattle.std.proofs.Common.{◌-◌, arith}
 use Rattle.kept_readings.specs.Steps.{below_none, below_next, below_short, below_all, room_still}
 use Rattle.kept_readings.proofs.add_below.Goals as goal
 

@@ -1,5 +1,5 @@
 -- Those below the first i heads are added.
-use Rattle.std.proofs.Common.{◌-◌, ◌∙◌, arith}
+use Rattle.std.proofs.Common.{◌-◌, arith}
 use Rattle.lists.specs.Tests.{next_fits}
 use Rattle.kept_readings.specs.Steps.{fill_none, fill_next, fill_short, fill_all, room_still}
 use Rattle.kept_readings.proofs.fill_kept.Goals as goal

@@ -1,6 +1,5 @@
 -- Where it can rank, by whether it has a join.
 use Rattle.std.proofs.Common.{sym, ◌∙◌, arith}
-use borrow.Author.Tests.{not-true, not-false}
 use Rattle.kept_readings.specs.Steps.{cannot_rank, is-head}
 use Rattle.kept_readings.proofs.is_head.Goals as goal
 

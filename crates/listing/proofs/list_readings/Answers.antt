@@ -2,7 +2,6 @@
 use mathlib.Core.Path.{refl, sym, ◌∙◌}
 use native.Mathlib.Omega.{arith}
 use lib.ListN.{length}
-use borrow.Author.Tests.{not-true, not-false}
 use Rattle.places.specs.Places.{kept_few}
 use Rattle.listing.specs.Rooms.{entry_room, kept_room}
 use Rattle.listing.specs.Alone.{own_alone}
@@ -28,13 +27,13 @@ pub kept_places-most-requires : goal.kept_places-most-requires
 kept_places-most-requires c = tt
 
 pub find_kept-requires : goal.find_kept-requires
-find_kept-requires c = let a = c.args in let p = c.requires in let o = c.list_own-r in (record { stores = stores_kept p.0.stores a.listed (sym c.is_listing.ensures ∙ c.if-not-is_listing.false); few = p.1; ranked = o.ensures.ranked; heads_long = (let z = p.0.wide.heads in let q = o.auto.1.1.1.1.1.1.1.1.1.1.1.1.1.1.0 in omega arith); keys_long = (let z = p.0.wide.keys in let q = o.auto.1.1.1.1.1.1.1.1.1.1.1.0 in omega arith); places_long = (let z = p.0.wide.places in let q = o.auto.1.1.1.1.1.1.1.1.1.1.1.1.0 in omega arith); lists_long = p.0.wide.lists; room = kept_room (length a.kept_hashes.now) (length a.kept_links.now) (length a.kept_sums.now) c.kept_places-most.ensures refl refl refl }, p.2)
+find_kept-requires c = let a = c.args in let p = c.requires in let o = c.list_own-r in (record { stores = stores_kept p.0.stores a.listed (sym c.is_listing.ensures ∙ c.if-not-is_listing.false); few = p.1; ranked = o.ensures.ranked; heads_long = (let z = p.0.wide.heads in let q = o.auto.heads in omega arith); keys_long = (let z = p.0.wide.keys in let q = o.auto.keys in omega arith); places_long = (let z = p.0.wide.places in let q = o.auto.places in omega arith); lists_long = p.0.wide.lists; room = kept_room (length a.kept_hashes.now) (length a.kept_links.now) (length a.kept_sums.now) c.kept_places-most.ensures refl refl refl }, p.2)
 
 pub list_with-requires : goal.list_with-requires
-list_with-requires c = let a = c.args in let p = c.requires in let o = c.list_own-r in let f = c.find_kept in let l = (sym c.is_listing.ensures ∙ c.if-not-is_listing.false) in let e = c.kept_places-most.ensures in let q = f.auto.1.1.1.1.1.1.1.1.1.1.1.1.1.1.1.1.1.0 ∙ o.auto.1.1.1.1.1.1.1.1.1.1.1.0 in (with_asks o.ensures c.bound_of-bound.ensures f.ensures c.in-Found.is p.0.stores l p.1 (entry_room (length a.hashes.now) (length a.nexts.now) (length a.costs.now) refl f.auto.1.1.1.1.1.1.1.1.1.1.1.1.1.1.1.1.1.1.1.1.0 f.auto.1.1.1.1.1.1.1.1.1.1.1.1.1.1.1.1.1.1.1.1.1.0 f.auto.1.1.1.1.1.1.1.1.1.1.1.1.1.1.1.1.1.1.1.1.1.1.0) (kept_few (length a.kept_hashes.now) (length a.kept_links.now) (length a.kept_sums.now) e) (kept_room (length a.kept_hashes.now) (length a.kept_links.now) (length a.kept_sums.now) e f.auto.1.1.1.1.1.1.1.1.1.1.1.1.1.1.1.1.1.1.1.1.1.1.1.0 f.auto.1.1.1.1.1.1.1.1.1.1.1.1.1.1.1.1.1.1.1.1.1.1.1.1.0 f.auto.1.1.1.1.1.1.1.1.1.1.1.1.1.1.1.1.1.1.1.1.1.1.1.1.1.0) (let z = p.0.wide.keys in omega arith, let z = p.0.wide.keys_kept in omega arith) (let z = p.0.wide.places in let q = f.auto.1.1.1.1.1.1.1.1.1.1.1.1.1.1.1.1.1.1.0 ∙ o.auto.1.1.1.1.1.1.1.1.1.1.1.1.0 in omega arith) (let z = p.0.wide.heads in let q = f.auto.1.1.1.1.1.1.1.1.1.1.1.1.1.1.1.0 ∙ o.auto.1.1.1.1.1.1.1.1.1.1.1.1.1.1.0 in omega arith) (let z = p.0.wide.order in omega arith) p.0.wide.route (let z = p.0.wide.lists in let q = f.auto.1.1.1.1.1.1.1.1.1.1.1.1.1.1.1.1.1.1.1.0 in omega arith) (let z = p.0.wide.list in omega arith), p.2.keys)
+list_with-requires c = let a = c.args in let p = c.requires in let o = c.list_own-r in let f = c.find_kept in let l = (sym c.is_listing.ensures ∙ c.if-not-is_listing.false) in let e = c.kept_places-most.ensures in let q = f.auto.keys ∙ o.auto.keys in (with_asks o.ensures c.bound_of-bound.ensures f.ensures c.in-Found.is p.0.stores l p.1 (entry_room (length a.hashes.now) (length a.nexts.now) (length a.costs.now) refl f.auto.hashes f.auto.nexts f.auto.costs) (kept_few (length a.kept_hashes.now) (length a.kept_links.now) (length a.kept_sums.now) e) (kept_room (length a.kept_hashes.now) (length a.kept_links.now) (length a.kept_sums.now) e f.auto.kept_hashes f.auto.kept_links f.auto.kept_sums) (let z = p.0.wide.keys in omega arith, let z = p.0.wide.keys_kept in omega arith) (let z = p.0.wide.places in let q = f.auto.places ∙ o.auto.places in omega arith) (let z = p.0.wide.heads in let q = f.auto.heads ∙ o.auto.heads in omega arith) (let z = p.0.wide.order in omega arith) p.0.wide.route (let z = p.0.wide.lists in let q = f.auto.lists in omega arith) (let z = p.0.wide.list in omega arith), p.2.keys)
 
 pub returns-in-Full : goal.returns-in-Full
 returns-in-Full c = let a = c.args in let o = c.list_own-r in let f = c.find_kept in is_full_lem o.ensures c.bound_of-bound.ensures f.ensures a.keeps c.requires.0.stores (sym c.is_listing.ensures ∙ c.if-not-is_listing.false) c.kept_places-most.ensures c.in-Full.is
 
 pub returns-in-Found : goal.returns-in-Found
-returns-in-Found c = let a = c.args in let p = c.requires in let o = c.list_own-r in let f = c.find_kept in let l = (sym c.is_listing.ensures ∙ c.if-not-is_listing.false) in let e = c.kept_places-most.ensures in are_items_lem o.ensures c.bound_of-bound.ensures f.ensures c.in-Found.is a.keeps p.0.stores l (entry_room (length a.hashes.now) (length a.nexts.now) (length a.costs.now) refl f.auto.1.1.1.1.1.1.1.1.1.1.1.1.1.1.1.1.1.1.1.1.0 f.auto.1.1.1.1.1.1.1.1.1.1.1.1.1.1.1.1.1.1.1.1.1.0 f.auto.1.1.1.1.1.1.1.1.1.1.1.1.1.1.1.1.1.1.1.1.1.1.0) (kept_room (length a.kept_hashes.now) (length a.kept_links.now) (length a.kept_sums.now) e f.auto.1.1.1.1.1.1.1.1.1.1.1.1.1.1.1.1.1.1.1.1.1.1.1.0 f.auto.1.1.1.1.1.1.1.1.1.1.1.1.1.1.1.1.1.1.1.1.1.1.1.1.0 f.auto.1.1.1.1.1.1.1.1.1.1.1.1.1.1.1.1.1.1.1.1.1.1.1.1.1.0) e c.list_with.ensures
+returns-in-Found c = let a = c.args in let p = c.requires in let o = c.list_own-r in let f = c.find_kept in let l = (sym c.is_listing.ensures ∙ c.if-not-is_listing.false) in let e = c.kept_places-most.ensures in are_items_lem o.ensures c.bound_of-bound.ensures f.ensures c.in-Found.is a.keeps p.0.stores l (entry_room (length a.hashes.now) (length a.nexts.now) (length a.costs.now) refl f.auto.hashes f.auto.nexts f.auto.costs) (kept_room (length a.kept_hashes.now) (length a.kept_links.now) (length a.kept_sums.now) e f.auto.kept_hashes f.auto.kept_links f.auto.kept_sums) e c.list_with.ensures

@@ -2,7 +2,6 @@
 use Prim.Native.Nat.{◌≤◌}
 use mathlib.Core.Path.{◌≡◌}
 use lib.ListN.{length}
-use Rattle.model.specs.Ints.{back}
 use Rattle.routes.specs.Back.{back_along}
 use Rattle.routes.specs.Before.{before_by}
 use Rattle.routes.proofs.before_along.Given as goal

@@ -7,7 +7,7 @@ use borrow.Author.Rules.{rules}
 use borrow.Author.Tests.{lt-ltb, le-ltb}
 use lib.ListN.{get_or}
 use Rattle.model.specs.Silence.{bad_segment}
-use Rattle.silence_weighting.specs.State.{segment_at, segment_count}
+use Rattle.silence_weighting.specs.State.{segment_at}
 use Rattle.silence_weighting.proofs.Segments.{over, within, bad_here, good_here, good_all}
 use Rattle.silence_weighting.proofs.bad_segments.Goals as goal
 

@@ -2,7 +2,7 @@
 use mathlib.Core.Path.{refl, sym, ◌∙◌}
 use Prim.Native.Nat.{◌-◌}
 use native.Mathlib.Omega.{arith}
-use lib.ListN.{length, length-set}
+use lib.ListN.{length-set}
 use Rattle.silence_weighting.proofs.Runs.{fill_more, fill_done}
 use Rattle.silence_weighting.proofs.fill_status.Goals as goal
 

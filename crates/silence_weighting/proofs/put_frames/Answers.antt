@@ -3,7 +3,7 @@ use native.Mathlib.Nat.{add-zero, sub-zero}
 use mathlib.Core.Path.{refl, sym, ◌∙◌}
 use Prim.Native.Nat.{◌+◌, ◌-◌}
 use native.Mathlib.Omega.{arith}
-use lib.ListN.{length, length-set}
+use lib.ListN.{length-set}
 use Rattle.silence_weighting.proofs.Runs.{put_more, put_done}
 use Rattle.silence_weighting.proofs.put_frames.Goals as goal
 

@@ -10,7 +10,6 @@ use lib.IntN.{pos}
 use mir.Syntax.{w32}
 use mir.ValLaws.{to_z-of_z}
 use Rattle.model.specs.Silence.{trailing, is_silence}
-use Rattle.silence_weighting.specs.State.{segment_count}
 use Rattle.silence_weighting.proofs.trailing_frames.Goals as goal
 
 pub loop-i-init : goal.loop-i-init

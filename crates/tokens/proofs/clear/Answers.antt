@@ -2,7 +2,7 @@
 use mathlib.Core.Path.{refl}
 use Prim.Native.Nat.{◌-◌}
 use native.Mathlib.Omega.{arith}
-use lib.ListN.{length, length-set}
+use lib.ListN.{length-set}
 use Rattle.tokens.proofs.Stores.{cleared_none, cleared_more, cleared_upto}
 use Rattle.tokens.proofs.clear.Goals as goal
 

@@ -1,7 +1,6 @@
 -- An active state's record number is read; another's is none.
 use mathlib.Core.Path.{sym, ◌∙◌}
 use native.Mathlib.Omega.{arith}
-use borrow.Author.Tests.{not-true, not-false}
 use Rattle.tokens.specs.Layout.{place_in, held_at}
 use Rattle.tokens.specs.Held.{some_held, none_held, held_is}
 use Rattle.tokens.proofs.link_at.Goals as goal

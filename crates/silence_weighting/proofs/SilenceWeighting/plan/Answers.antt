@@ -1,16 +1,12 @@
 -- `silence_weighting::SilenceWeighting::plan` meets its contract: its tests are the definition's, in its order.
-use mathlib.Core.Path.{◌≡◌, refl, sym, ap, ap₂, ◌∙◌, subst}
-use lib.Dec.{ltb}
-use lib.ListN.{length}
+use mathlib.Core.Path.{refl, sym, subst}
 use Rattle.silence_weighting.specs.declared.Window.{Window}
-use Rattle.silence_weighting.specs.declared.Plan.{Plan}
-use mathlib.Core.Bool.{Bool, true, false}
+use mathlib.Core.Bool.{true, false}
 use Prim.Native.Nat.{◌-◌}
 use native.Mathlib.Omega.{arith}
 use borrow.Author.Tests.{lt-ltb, le-ltb, le-leb, lt-leb}
-use Rattle.model.specs.Silence.{weighting_wrong, too_many, ceil_div}
 use Rattle.silence_weighting.specs.State.{places}
-use Rattle.silence_weighting.specs.Parts.{window_of, deltas_on, Sound}
+use Rattle.silence_weighting.specs.Parts.{Sound}
 use Rattle.silence_weighting.proofs.Limits.{fair, few_frames, sound_window}
 use Rattle.silence_weighting.proofs.Answered.{decided}
 use Rattle.silence_weighting.proofs.SilenceWeighting.plan.Goals as goal
