@@ -61,7 +61,7 @@ fn main() -> ExitCode {
     match hear() {
         Ok(()) => ExitCode::SUCCESS,
         Err(why) => {
-            println!("{why}");
+            println!("{}", why.line());
             ExitCode::FAILURE
         }
     }

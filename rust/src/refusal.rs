@@ -50,6 +50,20 @@ impl Refusal {
         Ok(written.count as usize)
     }
 
+    /// The refusal's line, for a fitter to read: number, name and place. It is empty for a place that the number cannot have, which no call gives.
+    ///
+    /// ```
+    /// use hirqazhom::{Place, Refusal};
+    /// let why = Refusal { number: 2, place: Place::Arc { state: 17, arc: 3 } };
+    /// assert_eq!(why.line(), "refusal 2; start or arc target is no state; state 17; arc 3;");
+    /// assert_eq!(why.line().parse(), Ok(why));
+    /// ```
+    pub fn line(self) -> String {
+        let mut line = [0; MAX_LINE];
+        let n = self.write_line(&mut line).unwrap_or(0);
+        str::from_utf8(&line[..n]).unwrap_or_default().to_string()
+    }
+
     /// The refusal whose line the bytes are, or none.
     pub fn from_line(bytes: &[u8]) -> Option<Refusal> {
         Refusal::of(call!(hirqazhom_read_line [] r bytes,)).err()
@@ -77,19 +91,15 @@ impl Refusal {
     }
 }
 
-/// The line of a refusal, for a fitter to read: number, name and place. It is empty for a place that the number cannot have, which no call gives.
-///
-/// ```
-/// use hirqazhom::{Place, Refusal};
-/// let why = Refusal { number: 2, place: Place::Arc { state: 17, arc: 3 } };
-/// assert_eq!(why.to_string(), "refusal 2; start or arc target is no state; state 17; arc 3;");
-/// assert_eq!(why.to_string().parse(), Ok(why));
-/// ```
 impl fmt::Display for Refusal {
     fn fmt(&self, f: &mut fmt::Formatter<'_>) -> fmt::Result {
-        let mut line = [0; MAX_LINE];
-        let n = self.write_line(&mut line).map_err(|_| fmt::Error)?;
-        f.pad(str::from_utf8(&line[..n]).map_err(|_| fmt::Error)?)
+        write!(f, "refused by number {}", self.number)?;
+        match self.place {
+            Place::Nowhere => Ok(()),
+            Place::Arc { state, arc } => write!(f, " at arc {arc} of state {state}"),
+            Place::State(s) => write!(f, " at state {s}"),
+            Place::Frames(n) => write!(f, ", frames decoded: {n}"),
+        }
     }
 }
 
@@ -107,7 +117,7 @@ impl fmt::Display for NoLine {
 
 impl std::error::Error for NoLine {}
 
-/// Reads what `Display` writes, and nothing else.
+/// Reads what `line` gives, and nothing else.
 impl FromStr for Refusal {
     type Err = NoLine;
 

@@ -32,7 +32,7 @@ fn line_of(why: Refusal) -> Option<String> {
 
 /// Judges the line that is written, and that it is read back.
 fn judge(why: Refusal) {
-    let line = why.to_string();
+    let line = why.line();
     assert_eq!(line, line_of(why).unwrap_or_default(), "{why:?}");
     assert_eq!(line.parse(), if line.is_empty() { Err(NoLine) } else { Ok(why) }, "{line}");
     assert!(line.len() <= 96, "{line}");
@@ -114,7 +114,7 @@ fn changed_lines() {
     for _ in 0..100_000 {
         let place = r.below(4);
         let why = refusal(r.below(25) as u32, places(&mut r)[place]);
-        let mut bytes = why.to_string().into_bytes();
+        let mut bytes = why.line().into_bytes();
         for _ in 0..r.below(3) {
             let at = r.below(bytes.len() + 1);
             match r.below(3) {

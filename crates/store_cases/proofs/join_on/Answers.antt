@@ -17,5 +17,5 @@ pub returns : goal.returns
 returns c =
     let a = c.args in
     let p = c.put_join in
-    put_join (store a.records.now a.labels.now a.gaps.now) (store p.new.0 p.new.1.0 p.new.1.1.0) a.used a.prev a.used _ _ _
+    put_join (store a.records.now a.labels.now a.gaps.now) (store p.new.records p.new.labels p.new.gaps) a.used a.prev a.used _ _ _
     (omega (arith, c.requires.0, c.if-used-cap.false)) c.if-used-prev.false c.if-used-kept.false p.ensures

@@ -2,7 +2,6 @@
 use mathlib.Core.Path.{refl, ◌∙◌}
 use Prim.Native.Nat.{◌<◌, ◌-◌}
 use lib.IntN.{pos}
-use mathlib.Core.List.{[]}
 use Rattle.store_cases.proofs.Keeps.{put_none, put_then, put_link}
 use native.Mathlib.Omega.{arith}
 use Rattle.store_cases.proofs.link_on.Goals as goal
@@ -19,28 +18,16 @@ loop-i-preserved c =
     let l = c.loop-i in
     let a = c.args in
     let lt : l.n < a.cap = omega (arith, l.invariant.1, c.if-n-cap.false) in
-    let step = put_link l.records p.new.0 l.labels p.new.1.0 l.n l.last l.n l.n p.result a.cap (pos 7) lt l.invariant.0 refl p.ensures in (
+    let step = put_link l.records p.new.records l.labels p.new.labels l.n l.last l.n l.n p.result a.cap (pos 7) lt l.invariant.0 refl p.ensures in (
       omega arith,
       (step []).few,
-      p.auto.0 ∙ l.invariant.2,
-      p.auto.1.0 ∙ l.invariant.3,
+      p.auto.records ∙ l.invariant.2,
+      p.auto.labels ∙ l.invariant.3,
       λ gs. put_then _ _ _ _ _ _ _ (l.invariant.4 gs) (step gs),
     )
 
-pub shape_of-records-after-loop-i : goal.shape_of-records-after-loop-i
-shape_of-records-after-loop-i c = c.loop-i.invariant.2
-
-pub shape_of-labels-after-loop-i : goal.shape_of-labels-after-loop-i
-shape_of-labels-after-loop-i c = c.loop-i.invariant.3
-
 pub returns-after-loop-i : goal.returns-after-loop-i
 returns-after-loop-i c = record { put = c.loop-i.invariant.4 }
-
-pub shape_of-records-then-n-cap : goal.shape_of-records-then-n-cap
-shape_of-records-then-n-cap c = c.loop-i.invariant.2
-
-pub shape_of-labels-then-n-cap : goal.shape_of-labels-then-n-cap
-shape_of-labels-then-n-cap c = c.loop-i.invariant.3
 
 pub returns-then-n-cap : goal.returns-then-n-cap
 returns-then-n-cap c = record { put = c.loop-i.invariant.4 }

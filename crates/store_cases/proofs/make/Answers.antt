@@ -10,5 +10,5 @@ pub returns : goal.returns
 returns c =
     let a = c.args in
     let m = c.make_room-m in
-    ready_made (store a.records.now a.labels.now a.gaps.now) a.tokens.now _ _ _ a.x c.requires.0 c.requires.2 (store m.new.0 m.new.1.0 m.new.1.1.0) m.new.1.1.1.0 _ _
-    c.requires.1 c.if-used-x.false m.auto.1.1.1.0 m.ensures
+    ready_made (store a.records.now a.labels.now a.gaps.now) a.tokens.now _ _ _ a.x c.requires.0 c.requires.2 (store m.new.records m.new.labels m.new.gaps) m.new.tokens _ _
+    c.requires.1 c.if-used-x.false m.auto.tokens m.ensures

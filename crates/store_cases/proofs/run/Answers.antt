@@ -1,7 +1,6 @@
 -- Between two lines the store is ready, and the slices are as long as they were.
 use mathlib.Core.Path.{refl, ◌∙◌}
 use Prim.Native.Nat.{◌-◌}
-use Rattle.records.specs.Layout.{store}
 use native.Mathlib.Omega.{arith}
 use Rattle.store_cases.proofs.run.Goals as goal
 
@@ -20,23 +19,8 @@ step-z-requires c =
       l.invariant.4,
     )
 
-pub loop-at-smaller : goal.loop-at-smaller
-loop-at-smaller c = omega (arith, c.read_line-l.ensures, c.loop-at-test.true)
-
 pub loop-at-preserved : goal.loop-at-preserved
 loop-at-preserved c =
     let l = c.loop-at in
     let k = c.step-z in
-    (k.auto.0 ∙ l.invariant.0, k.auto.1.0 ∙ l.invariant.1, k.auto.1.1.0 ∙ l.invariant.2, k.auto.1.1.1.0 ∙ l.invariant.3, k.ensures)
-
-pub shape_of-records : goal.shape_of-records
-shape_of-records c = c.loop-at.invariant.0
-
-pub shape_of-labels : goal.shape_of-labels
-shape_of-labels c = c.loop-at.invariant.1
-
-pub shape_of-gaps : goal.shape_of-gaps
-shape_of-gaps c = c.loop-at.invariant.2
-
-pub shape_of-tokens : goal.shape_of-tokens
-shape_of-tokens c = c.loop-at.invariant.3 ∙ c.empty_store-z.auto.tokens
+    (k.auto.records ∙ l.invariant.0, k.auto.labels ∙ l.invariant.1, k.auto.gaps ∙ l.invariant.2, k.auto.tokens ∙ l.invariant.3, k.ensures)

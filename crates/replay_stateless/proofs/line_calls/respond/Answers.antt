@@ -1,5 +1,4 @@
 -- `replay_stateless::line_calls::respond` is safe: the line stands in the slice.
-use native.Mathlib.Omega.{arith}
 use Rattle.refusal_lines.proofs.Laws.{written_fits}
 use Rattle.replay_stateless.proofs.line_calls.respond.Goals as goal
 
