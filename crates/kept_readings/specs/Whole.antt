@@ -155,6 +155,7 @@ module _ {rs : List ℕ} {ls : List ℤ} {used : ℕ} (gs : List Float) (h : ℕ
     some_heads s i = d s (subst (λ (l : List ℕ). s ∈ l) (sym parts.1) (append_to (take F.j heads) parts.0 s i))
       where
         append_to : (xs ys : List ℕ) (x : ℕ) → x ∈ xs → x ∈ (xs ++ ys)
+        append_to [] ys x m = elim m [ ]
         append_to (y ∷ xs) ys x (here e) = here e
         append_to (y ∷ xs) ys x (there m) = there (append_to xs ys x m)
 

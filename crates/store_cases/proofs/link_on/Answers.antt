@@ -2,6 +2,7 @@
 use mathlib.Core.Path.{refl, ◌∙◌}
 use Prim.Native.Nat.{◌<◌, ◌-◌}
 use lib.IntN.{pos}
+use mathlib.Core.List.{[]}
 use Rattle.store_cases.proofs.Keeps.{put_none, put_then, put_link}
 use native.Mathlib.Omega.{arith}
 use Rattle.store_cases.proofs.link_on.Goals as goal
