@@ -1,5 +1,5 @@
 -- What the steps of putting both together ask, from what was found, and what they leave. Assumes nothing.
-use Rattle.std.specs.Prelude.{◌≡◌, ℕ, ◌+◌, ◌*◌, ◌≤◌, ◌<◌, Bool, true, false, List, ◌∷◌, ℤ, length, get_or, take, Float}
+use Rattle.std.specs.Prelude.{◌≡◌, ℕ, ◌+◌, ◌*◌, ◌≤◌, ◌<◌, Bool, true, false, List, [], ◌∷◌, ℤ, length, get_or, take, Float}
 use Rattle.std.proofs.Common.{ap, ap₂, ◌∙◌, subst, arith}
 use mathlib.Core.List.Memᴰ.{head as here}
 use mathlib.Core.List.Memᴰ.{tail as there}
@@ -35,6 +35,7 @@ use Rattle.listing.specs.Keeping.{KeptSound, belows, decoded, belows_few, sound_
 
 -- what is left of the own groups is of them
 pub left_from : (same first : ℕ → ℕ → Bool) (kept own : List ℕ) (s : ℕ) → s ∈ own_still_left same first kept own → s ∈ own
+left_from same first kept [] s m = elim m [ ]
 left_from same first kept (o ∷ own) s (here e) = here e
 left_from same first kept (o ∷ own) s (there m) = there (keep_from (own_stands same first kept) own s m)
 

@@ -88,8 +88,8 @@ more_less : (w n : ℕ) → w + n - w ≡ n
 more_less w n = omega arith
 
 module _ (xs : List Line) (x : Line) (ys : List Line) {o o' : Outputs} (f : Filled (xs ++ x ∷ ys) o o') where
-  abbrev ts : List Told
-  ts = tolds_in xs
+  abbrev told : List Told
+  told = tolds_in xs
 
   abbrev all : List Line
   all = xs ++ x ∷ ys
@@ -97,10 +97,10 @@ module _ (xs : List Line) (x : Line) (ys : List Line) {o o' : Outputs} (f : Fill
   abbrev rest_of : List ℕ
   rest_of = drop (length (numbers_from 0 0 all)) o.numbers
 
-  number : (j : ℕ) → get_or o'.numbers (length xs * 5 + j) 0 ≡ get_or (numbers_from (words_in ts) (phones_in ts) (x ∷ ys) ++ rest_of) j 0
+  number : (j : ℕ) → get_or o'.numbers (length xs * 5 + j) 0 ≡ get_or (numbers_from (words_in told) (phones_in told) (x ∷ ys) ++ rest_of) j 0
   number j =
       ap (λ (l : List ℕ). get_or l (length xs * 5 + j) 0) f.numbers
-      ∙ at_behind (numbers_from 0 0 all) (numbers_from 0 0 xs) (numbers_from (0 + words_in ts) (0 + phones_in ts) (x ∷ ys)) rest_of (length xs * 5) j 0 (numbers-append xs (x ∷ ys) 0 0) (numbers_long 0 0 xs)
+      ∙ at_behind (numbers_from 0 0 all) (numbers_from 0 0 xs) (numbers_from (0 + words_in told) (0 + phones_in told) (x ∷ ys)) rest_of (length xs * 5) j 0 (numbers-append xs (x ∷ ys) 0 0) (numbers_long 0 0 xs)
       ∙ ap₂ (λ (a b : ℕ). get_or (numbers_from a b (x ∷ ys) ++ rest_of) j 0) (omega arith) (omega arith)
 
   cost : (j : ℕ) → get_or o'.costs (length xs * 4 + j) nan ≡ get_or (costs_of (x ∷ ys) ++ drop (length (costs_of all)) o.costs) j nan
@@ -108,27 +108,27 @@ module _ (xs : List Line) (x : Line) (ys : List Line) {o o' : Outputs} (f : Fill
       ap (λ (l : List Float). get_or l (length xs * 4 + j) nan) f.costs
       ∙ at_behind (costs_of all) (costs_of xs) (costs_of (x ∷ ys)) (drop (length (costs_of all)) o.costs) (length xs * 4) j nan (costs-append xs (x ∷ ys)) (costs_long xs)
 
-  begins : words_end o'.numbers (length xs) ≡ words_in ts
+  begins : words_end o'.numbers (length xs) ≡ words_in told
   begins = words_ends o'.numbers (length xs) ∙ ap (λ (l : List ℕ). end_from 0 0 l (length xs)) f.numbers ∙ words_end_lem xs (x ∷ ys) 0 0 rest_of ∙ (omega arith)
 
-  begins_segments : segments_end o'.numbers (length xs) ≡ phones_in ts
+  begins_segments : segments_end o'.numbers (length xs) ≡ phones_in told
   begins_segments = segments_ends o'.numbers (length xs) ∙ ap (λ (l : List ℕ). end_from 0 1 l (length xs)) f.numbers ∙ segments_end_lem xs (x ∷ ys) 0 0 rest_of ∙ (omega arith)
 
-  ends : words_end o'.numbers (suc (length xs)) ≡ words_in ts + length x.told.words
+  ends : words_end o'.numbers (suc (length xs)) ≡ words_in told + length x.told.words
   ends = ap (λ (k : ℕ). get_or o'.numbers k 0) (sym (add-zero (length xs * 5))) ∙ number 0
 
-  ends_segments : segments_end o'.numbers (suc (length xs)) ≡ phones_in ts + length x.told.phones
+  ends_segments : segments_end o'.numbers (suc (length xs)) ≡ phones_in told + length x.told.phones
   ends_segments = number 1
 
-  words_behind : drop (words_in ts) o'.words ≡ x.told.words ++ (all_words (tolds_in ys) ++ drop (length (all_words (tolds_in all))) o.words)
+  words_behind : drop (words_in told) o'.words ≡ x.told.words ++ (all_words (tolds_in ys) ++ drop (length (all_words (tolds_in all))) o.words)
   words_behind =
-      ap (drop (words_in ts)) f.words
-      ∙ behind (all_words (tolds_in all)) (all_words ts) x.told.words (all_words (tolds_in ys)) (drop (length (all_words (tolds_in all))) o.words) (words_in ts) (ap all_words (tolds-append xs (x ∷ ys)) ∙ words_append ts (tolds_in (x ∷ ys))) (words_long ts)
+      ap (drop (words_in told)) f.words
+      ∙ behind (all_words (tolds_in all)) (all_words told) x.told.words (all_words (tolds_in ys)) (drop (length (all_words (tolds_in all))) o.words) (words_in told) (ap all_words (tolds-append xs (x ∷ ys)) ∙ words_append told (tolds_in (x ∷ ys))) (words_long told)
 
   words_at : take (words_end o'.numbers (suc (length xs)) - words_end o'.numbers (length xs)) (drop (words_end o'.numbers (length xs)) o'.words) ≡ x.told.words
   words_at =
       (λ i. take (ends i - begins i) (drop (begins i) o'.words))
-      ∙ ap₂ take (more_less (words_in ts) (length x.told.words)) words_behind ∙ take_at x.told.words (all_words (tolds_in ys) ++ drop (length (all_words (tolds_in all))) o.words) (length x.told.words) refl
+      ∙ ap₂ take (more_less (words_in told) (length x.told.words)) words_behind ∙ take_at x.told.words (all_words (tolds_in ys) ++ drop (length (all_words (tolds_in all))) o.words) (length x.told.words) refl
 
   reading_at_lem : reading_at o' (length xs) ≡ reading_for x
   reading_at_lem i =
@@ -144,29 +144,29 @@ module _ (xs : List Line) (x : Line) (ys : List Line) {o o' : Outputs} (f : Fill
       }
 
   -- traced, as all in front of it
-  module _ (even : frames_in ts ≡ words_in ts) (plain : Plain x.told) where
-    frames_behind : drop (words_in ts) o'.frames ≡ x.told.word_frames ++ (all_frames (tolds_in ys) ++ drop (length (all_frames (tolds_in all))) o.frames)
+  module _ (even : frames_in told ≡ words_in told) (plain : Plain x.told) where
+    frames_behind : drop (words_in told) o'.frames ≡ x.told.word_frames ++ (all_frames (tolds_in ys) ++ drop (length (all_frames (tolds_in all))) o.frames)
     frames_behind =
-        ap (drop (words_in ts)) f.frames
-        ∙ behind (all_frames (tolds_in all)) (all_frames ts) x.told.word_frames (all_frames (tolds_in ys)) (drop (length (all_frames (tolds_in all))) o.frames) (words_in ts)
-        (ap all_frames (tolds-append xs (x ∷ ys)) ∙ frames-append ts (tolds_in (x ∷ ys))) (frames_long ts ∙ even)
+        ap (drop (words_in told)) f.frames
+        ∙ behind (all_frames (tolds_in all)) (all_frames told) x.told.word_frames (all_frames (tolds_in ys)) (drop (length (all_frames (tolds_in all))) o.frames) (words_in told)
+        (ap all_frames (tolds-append xs (x ∷ ys)) ∙ frames-append told (tolds_in (x ∷ ys))) (frames_long told ∙ even)
 
-    segments_behind : drop (phones_in ts * 3) o'.segments ≡ flat x.told.phones ++ (all_segments (tolds_in ys) ++ drop (length (all_segments (tolds_in all))) o.segments)
+    segments_behind : drop (phones_in told * 3) o'.segments ≡ flat x.told.phones ++ (all_segments (tolds_in ys) ++ drop (length (all_segments (tolds_in all))) o.segments)
     segments_behind =
-        ap (drop (phones_in ts * 3)) f.segments
-        ∙ behind (all_segments (tolds_in all)) (all_segments ts) (flat x.told.phones) (all_segments (tolds_in ys)) (drop (length (all_segments (tolds_in all))) o.segments) (phones_in ts * 3)
-        (ap all_segments (tolds-append xs (x ∷ ys)) ∙ segments-append ts (tolds_in (x ∷ ys))) (segments_long ts)
+        ap (drop (phones_in told * 3)) f.segments
+        ∙ behind (all_segments (tolds_in all)) (all_segments told) (flat x.told.phones) (all_segments (tolds_in ys)) (drop (length (all_segments (tolds_in all))) o.segments) (phones_in told * 3)
+        (ap all_segments (tolds-append xs (x ∷ ys)) ∙ segments-append told (tolds_in (x ∷ ys))) (segments_long told)
 
     frames_at : take (words_end o'.numbers (suc (length xs)) - words_end o'.numbers (length xs)) (drop (words_end o'.numbers (length xs)) o'.frames) ≡ x.told.word_frames
     frames_at =
         (λ i. take (ends i - begins i) (drop (begins i) o'.frames))
-        ∙ ap₂ take (more_less (words_in ts) (length x.told.words)) frames_behind
+        ∙ ap₂ take (more_less (words_in told) (length x.told.words)) frames_behind
         ∙ take_at x.told.word_frames (all_frames (tolds_in ys) ++ drop (length (all_frames (tolds_in all))) o.frames) (length x.told.words) plain.as_many
 
     segments_at : segments_in (segments_end o'.numbers (suc (length xs)) - segments_end o'.numbers (length xs)) (drop (segments_end o'.numbers (length xs) * 3) o'.segments) ≡ x.told.phones
     segments_at =
         (λ i. segments_in (ends_segments i - begins_segments i) (drop (begins_segments i * 3) o'.segments))
-        ∙ ap₂ segments_in (more_less (phones_in ts) (length x.told.phones)) segments_behind ∙ plain.back (all_segments (tolds_in ys) ++ drop (length (all_segments (tolds_in all))) o.segments)
+        ∙ ap₂ segments_in (more_less (phones_in told) (length x.told.phones)) segments_behind ∙ plain.back (all_segments (tolds_in ys) ++ drop (length (all_segments (tolds_in all))) o.segments)
 
     trace_at_lem : trace_at o' (length xs) ≡ x.told
     trace_at_lem i = record { words = words_at i; word_frames = frames_at i; phones = segments_at i; cost = cost 1 i }

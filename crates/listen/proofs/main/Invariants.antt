@@ -4,8 +4,8 @@ use Rattle.listen.proofs.main.Given as goal
 
 abbrev pub invariant-loop : goal.invariant-loop
 invariant-loop l =
-    counter ≤ 3
+    l.counter ≤ 3
 
 abbrev pub decreases-loop : goal.decreases-loop
 decreases-loop l =
-    3 - counter
+    3 - l.counter

@@ -6,6 +6,3 @@ use Rattle.listen.proofs.write_refusal.Goals as goal
 
 pub slice_bounds-line-end : goal.slice_bounds-line-end
 slice_bounds-line-end c = written_fits _ _ _ _ (rw c.in-Length.is at c.write_line.ensures)
-
-pub slice_bounds-write_text-end : goal.slice_bounds-write_text-end
-slice_bounds-write_text-end c = sym (length-take-le _ _ (array-share-prefix-line c.before))
