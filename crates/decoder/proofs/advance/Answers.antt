@@ -26,9 +26,6 @@ go_back-requires c = let f = c.requires.left.is.fixed in
 pub overflow_add-decoder : goal.overflow_add-decoder
 overflow_add-decoder c = let R = c.requires.left.is in let z = (can R c.args.loglikes.now (no_fault R c.args.loglikes.now _ c.check_frame-wrong.ensures c.if-wrong-ne0.false)).few in let k = R.frames_are in record { fits = omega arith }
 
-pub turned-requires : goal.turned-requires
-turned-requires c = c.requires.left.is.fixed.side
-
 pub returns-in-Refused : goal.returns-in-Refused
 returns-in-Refused c =
     record {

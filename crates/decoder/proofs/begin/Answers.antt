@@ -5,9 +5,6 @@ use lib.Ieee.{of_bits}
 use Rattle.decoder.specs.Begin.{put_asks, pass_given, begins_nowhere, begins_on, begins_refused}
 use Rattle.decoder.proofs.begin.Goals as goal
 
-pub clear_both-requires : goal.clear_both-requires
-clear_both-requires c = c.requires.is.fixed.stores.tokens
-
 pub returns-then-first : goal.returns-then-first
 returns-then-first c = λ g s l st G. begins_nowhere G _ (record { tokens = c.clear_both.auto.tokens; sums = refl; records = refl; labels = refl; gaps = refl }) c.clear_both.ensures c.if-first.true _ c.emptied.ensures
 
@@ -24,9 +21,6 @@ clear_both-requires-in-Refused c = let z = c.requires.is.fixed.stores.tokens in
     let b = c.put_token.auto.tokens in
     let d = c.clear_both.auto.tokens in
     omega arith
-
-pub turned-requires : goal.turned-requires
-turned-requires c = c.requires.is.fixed.side
 
 pub returns-in-Refused : goal.returns-in-Refused
 unfolding of_bits

@@ -1,18 +1,11 @@
 -- The newest of the states below s.
-use Prim.Native.Nat.{◌-◌}
 use native.Mathlib.Omega.{arith}
 use mathlib.Core.Path.{◌≡◌, subst}
-use Rattle.decoder.specs.Frame.{NewestIs, newest_none, newest_more}
+use Rattle.decoder.specs.Frame.{NewestIs, newest_more}
 use Rattle.decoder.proofs.newest.Goals as goal
-
-pub loop-s-init : goal.loop-s-init
-loop-s-init c = (omega arith, newest_none _ _ _)
 
 pub token_at-requires : goal.token_at-requires
 token_at-requires c = let h = c.loop-s-test.true in let a = c.requires.1 in let b = c.requires.2 in (c.requires.0, omega arith, omega arith)
-
-pub loop-s-smaller : goal.loop-s-smaller
-loop-s-smaller c = let h = c.loop-s-test.true in omega arith
 
 pub loop-s-preserved : goal.loop-s-preserved
 loop-s-preserved c = let h = c.loop-s-test.true in (omega arith, newest_more _ _ _ _ _ _ c.loop-s.invariant.1 _ c.token_at.ensures c.larger-most.ensures)

@@ -1,5 +1,4 @@
 -- The nonemitting pass goes on where the emitting one ends.
-use mathlib.Core.Path.{◌∙◌}
 use Rattle.decoder.specs.Frame.{run_stops, run_given, run_ends}
 use Rattle.decoder.proofs.run_frame.Goals as goal
 

@@ -1,10 +1,6 @@
 -- Of the finished table, its records and their gaps.
-use native.Mathlib.Omega.{arith}
 use Rattle.decoder_readings.specs.Listed.{readings_asks, readings_is}
 use Rattle.decoder_readings.proofs.reading_list.Goals as goal
-
-pub overflow_sub-side : goal.overflow_sub-side
-overflow_sub-side c = let z = c.requires.left.left.is.fixed.side in omega arith
 
 pub readings-requires : goal.readings-requires
 readings-requires c = let p = c.requires in readings_asks p.left _ _ _ _ _ _ _ _ _ _ _ p.wide p.wide_records p.wide_kept

@@ -1,10 +1,6 @@
 -- Of the finished table and its records.
-use native.Mathlib.Omega.{arith}
 use Rattle.decoder_reads.specs.Reads.{histories_wide, alternatives_asks, alternatives_is}
 use Rattle.decoder_reads.proofs.alternatives.Goals as goal
-
-pub overflow_sub-finished : goal.overflow_sub-finished
-overflow_sub-finished c = let z = c.requires.left.left.is.fixed.side in omega arith
 
 pub alternatives-requires : goal.alternatives-requires
 alternatives-requires c = let h = histories_wide c.requires.left.left _ _ c.requires.wide_records in (alternatives_asks c.requires.left.left _ c.requires.left.finals_are _ _ _ c.requires.wide, h.0, h.1)

@@ -1,10 +1,6 @@
 -- Of the finished table.
-use native.Mathlib.Omega.{arith}
 use Rattle.decoder_reads.specs.Reads.{read_asks, finals_long, relative_is}
 use Rattle.decoder_reads.proofs.final_relative_cost.Goals as goal
-
-pub overflow_sub-decoder : goal.overflow_sub-decoder
-overflow_sub-decoder c = let z = c.requires.left.left.is.fixed.side in omega arith
 
 pub final_relative_cost-requires : goal.final_relative_cost-requires
 final_relative_cost-requires c = let z = read_asks c.requires.left.left in (z.0, z.1, z.2, finals_long c.requires.left.left _ c.requires.left.finals_are)

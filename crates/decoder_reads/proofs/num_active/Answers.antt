@@ -1,10 +1,6 @@
 -- Of the finished table.
-use native.Mathlib.Omega.{arith}
 use Rattle.decoder_reads.specs.Reads.{read_asks, active_is}
 use Rattle.decoder_reads.proofs.num_active.Goals as goal
-
-pub overflow_sub-decoder : goal.overflow_sub-decoder
-overflow_sub-decoder c = let z = c.requires.left.is.fixed.side in omega arith
 
 pub num_active-requires : goal.num_active-requires
 num_active-requires c = let z = read_asks c.requires.left in (z.0, z.1)

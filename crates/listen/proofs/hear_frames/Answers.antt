@@ -1,24 +1,16 @@
 -- `listen::hear_frames` is safe and ends: between the frames it holds what the last one left.
-use mathlib.Core.Path.{refl, ◌∙◌}
-use Prim.Native.Nat.{◌-◌}
-use lib.ListN.{length}
-use Rattle.stores.specs.Rep.{lent, lens_self, lens_then}
+use mathlib.Core.Path.{◌∙◌}
+use Rattle.stores.specs.Rep.{lent, lens_then}
 use Rattle.decoder.proofs.Held.{held_asked}
 use Rattle.listen.specs.Held.{frame_asked, frame_hears}
 use native.Mathlib.Omega.{arith}
 use Rattle.listen.proofs.hear_frames.Goals as goal
-
-pub loop-i-init : goal.loop-i-init
-loop-i-init c = (omega arith, c.requires, lens_self _, record { same_length = refl }, record { same_length = refl })
 
 pub frame-requires : goal.frame-requires
 frame-requires c = frame_asked c.loop-i.invariant.1
 
 pub overflow_step-i : goal.overflow_step-i
 overflow_step-i c = record { fits = omega (arith, c.loop-i-test.true) }
-
-pub loop-i-smaller : goal.loop-i-smaller
-loop-i-smaller c = omega (arith, c.loop-i-test.true)
 
 pub loop-i-preserved : goal.loop-i-preserved
 loop-i-preserved c =

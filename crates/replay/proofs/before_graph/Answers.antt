@@ -1,11 +1,7 @@
 -- `replay::before_graph` is safe, ends and stops at a record of the script.
-use Prim.Native.Nat.{◌-◌}
 use Rattle.replay.specs.Places.{record_from}
 use native.Mathlib.Omega.{arith}
 use Rattle.replay.proofs.before_graph.Goals as goal
-
-pub loop-r-init : goal.loop-r-init
-loop-r-init c = tt
 
 pub overflow_add-at : goal.overflow_add-at
 overflow_add-at c = let h = rw c.in-Whole.is at (record_from _ _ _ c.record_at.ensures) in omega arith
@@ -18,15 +14,3 @@ returns-in-Taken c = let h = rw c.in-Whole.is at (record_from _ _ _ c.record_at.
 
 pub loop-r-smaller : goal.loop-r-smaller
 loop-r-smaller c = let h = rw c.in-Whole.is at (record_from _ _ _ c.record_at.ensures) in omega (arith, h)
-
-pub loop-r-preserved : goal.loop-r-preserved
-loop-r-preserved c = tt
-
-pub returns-in-Over : goal.returns-in-Over
-returns-in-Over c = tt
-
-pub returns-in-Short : goal.returns-in-Short
-returns-in-Short c = tt
-
-pub returns-in-End : goal.returns-in-End
-returns-in-End c = tt

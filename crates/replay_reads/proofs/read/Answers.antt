@@ -1,5 +1,4 @@
 -- `replay_reads::read` meets its contract: what each read asks is among what is asked.
-use mathlib.Core.Path.{refl}
 use Rattle.replay_reads.proofs.read.Goals as goal
 
 pub alternatives-requires : goal.alternatives-requires
@@ -16,12 +15,3 @@ returns-then-r-eq-READINGS c = λ p q. let h = q c.if-r-eq-READINGS.true in c.re
 
 pub best-requires : goal.best-requires
 best-requires c = record { inside = c.requires.inside; finals_left = c.requires.reads_left.best }
-
-pub returns-then-r-eq-BEST : goal.returns-then-r-eq-BEST
-returns-then-r-eq-BEST c = λ p q. refl
-
-pub say_number-requires : goal.say_number-requires
-say_number-requires c = c.requires.reads_left.relative
-
-pub returns : goal.returns
-returns c = λ p q. refl

@@ -21,9 +21,3 @@ returns-then-r-eq-KEEP c = c.keep.ensures _ _ _ _ _ _ c.requires.held
 
 pub read-goes-requires : goal.read-goes-requires
 read-goes-requires c = record { inside = c.requires.inside; reads_left = reads_next c.requires.held }
-
-pub returns-then-goes : goal.returns-then-goes
-returns-then-goes c = c.requires.held
-
-pub returns : goal.returns
-returns c = tt

@@ -1,13 +1,9 @@
 -- `replay::decoding::on_decoder` meets its contract: between the calls the decoder and its stores are as the last one left them.
-use mathlib.Core.Path.{refl, ◌∙◌}
-use Prim.Native.Nat.{◌-◌}
+use mathlib.Core.Path.{◌∙◌}
 use Rattle.replay.specs.Places.{record_from, stops_behind}
 use Rattle.replay_calls.specs.Held.{answered_next}
 use native.Mathlib.Omega.{arith}
 use Rattle.replay.proofs.decoding.on_decoder.Goals as goal
-
-pub loop-r-init : goal.loop-r-init
-loop-r-init c = (omega arith, c.requires, record { tokens = refl; sums = refl; records = refl; labels = refl; gaps = refl; queue = refl; scratch = refl })
 
 pub overflow_add-at : goal.overflow_add-at
 overflow_add-at c = let h = rw c.in-Whole.is at (record_from _ _ _ c.record_at.ensures) in omega (arith, h)
@@ -32,12 +28,3 @@ loop-r-smaller c = let h = rw c.in-Whole.is at (record_from _ _ _ c.record_at.en
 
 pub loop-r-preserved : goal.loop-r-preserved
 loop-r-preserved c = let h = rw c.in-Whole.is at (record_from _ _ _ c.record_at.ensures) in (omega (arith, h, c.loop-r.invariant.0), answered_next _ _ _ _ _ _ _ _ _ _ c.answer.ensures c.in-Next.is c.answer.auto.queue c.answer.auto.scratch, record { tokens = c.answer.auto.tokens ∙ c.loop-r.invariant.2.tokens; sums = c.answer.auto.sums ∙ c.loop-r.invariant.2.sums; records = c.answer.auto.records ∙ c.loop-r.invariant.2.records; labels = c.answer.auto.labels ∙ c.loop-r.invariant.2.labels; gaps = c.answer.auto.gaps ∙ c.loop-r.invariant.2.gaps; queue = c.answer.auto.queue ∙ c.loop-r.invariant.2.queue; scratch = c.answer.auto.scratch ∙ c.loop-r.invariant.2.scratch })
-
-pub returns-in-Over : goal.returns-in-Over
-returns-in-Over c = tt
-
-pub returns-in-Short : goal.returns-in-Short
-returns-in-Short c = tt
-
-pub returns-in-End : goal.returns-in-End
-returns-in-End c = tt

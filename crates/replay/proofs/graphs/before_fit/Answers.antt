@@ -1,5 +1,4 @@
 -- `replay::graphs::before_fit` is safe, ends and stops at a record of the script.
-use Prim.Native.Nat.{◌-◌}
 use Rattle.replay.specs.Places.{record_from, stops_behind}
 use native.Mathlib.Omega.{arith}
 use Rattle.replay.proofs.graphs.before_fit.Goals as goal
@@ -24,9 +23,3 @@ loop-r-smaller c = let h = rw c.in-Whole.is at (record_from _ _ _ c.record_at.en
 
 pub loop-r-preserved : goal.loop-r-preserved
 loop-r-preserved c = let h = rw c.in-Whole.is at (record_from _ _ _ c.record_at.ensures) in omega (arith, h, c.loop-r.invariant)
-
-pub returns-in-Short : goal.returns-in-Short
-returns-in-Short c = tt
-
-pub returns-in-End : goal.returns-in-End
-returns-in-End c = tt

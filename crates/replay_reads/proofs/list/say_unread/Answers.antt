@@ -1,6 +1,5 @@
 -- `replay_reads::list::say_unread` meets its contract.
-use mathlib.Core.Path.{refl, sym, ◌∙◌}
-use borrow.Author.Tests.{not-true}
+use mathlib.Core.Path.{sym, ◌∙◌}
 use Rattle.replay_reads.proofs.list.say_unread.Goals as goal
 
 pub returns-then-not-all_entries : goal.returns-then-not-all_entries
@@ -8,6 +7,3 @@ returns-then-not-all_entries c = λ e f. sym (c.if-not-all_entries.true) ∙ c.a
 
 pub returns-then-not-all_output : goal.returns-then-not-all_output
 returns-then-not-all_output c = λ e f. sym (c.if-not-all_output.true) ∙ c.all_output.ensures ∙ f
-
-pub returns : goal.returns
-returns c = λ e f. refl
