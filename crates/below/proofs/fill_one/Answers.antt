@@ -23,6 +23,9 @@ fill_list-to-requires c = fill_asks c.requires c.own_way-own.result c.kept_way-k
 pub returns-then-to-eq0 : goal.returns-then-to-eq0
 returns-then-to-eq0 c = no_place (record { own = c.own_way-own.result; kept = c.kept_way-kept.result; wanted = let e = c.count_of.ensures in let d = c.if-count_of-eq0.false in omega (arith, d); own_way = c.own_way-own.ensures; kept_way = c.kept_way-kept.ensures; fill = rw c.if-to-eq0.true at c.fill_list-to.ensures })
 
+pub overflow_sub-to : goal.overflow_sub-to
+overflow_sub-to c = c.fill_list-to.ensures.on c.if-to-eq0.false
+
 pub put_list-requires : goal.put_list-requires
 put_list-requires c = (c.requires.begins, let z = c.requires.lists_long in let y = c.requires.low in omega arith)
 
