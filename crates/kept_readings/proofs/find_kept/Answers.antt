@@ -10,8 +10,17 @@ loop-i-init c = (omega arith, λ j l. absurd (omega arith))
 pub kept_at-requires : goal.kept_at-requires
 kept_at-requires c = let r = c.requires in let t = c.loop-i-test.true in record { hashes = let z = r.hashes in omega arith; links = let z = r.links in omega arith; sums = let z = r.sums in omega arith }
 
+pub same_kept-requires : goal.same_kept-requires
+same_kept-requires c = tt
+
 pub returns-then-same_kept : goal.returns-then-same_kept
 returns-then-same_kept c = record { few = c.loop-i.invariant.0; before = c.loop-i.invariant.1; found = λ l. ap (same_kept c.args.k) (sym c.kept_at.ensures) ∙ sym c.same_kept.ensures ∙ c.if-same_kept.true }
+
+pub overflow_step-i : goal.overflow_step-i
+overflow_step-i c = record { fits = next_fits _ _ _ c.loop-i-test.true c.ranges.n.fits }
+
+pub loop-i-smaller : goal.loop-i-smaller
+loop-i-smaller c = let t = c.loop-i-test.true in omega arith
 
 pub loop-i-preserved : goal.loop-i-preserved
 loop-i-preserved c = (let t = c.loop-i-test.true in omega arith, below_more (λ (j : ℕ). same_kept c.args.k (kept_read_in c.args.hashes.now c.args.links.now c.args.sums.now j) ≡ false) _ c.loop-i.invariant.1 (ap (same_kept c.args.k) (sym c.kept_at.ensures) ∙ sym c.same_kept.ensures ∙ c.if-same_kept.false))

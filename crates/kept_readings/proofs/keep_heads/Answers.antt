@@ -9,11 +9,20 @@ use Rattle.kept_readings.proofs.keep_heads.Goals as goal
 pub loop-i-init : goal.loop-i-init
 loop-i-init c = (omega arith, keep_none _ _ _)
 
+pub bounds-heads-i : goal.bounds-heads-i
+bounds-heads-i c = let z = c.loop-i.invariant.1.same_length in let k = c.requires.long in let t = c.loop-i-test.true in omega arith
+
 pub is_head-kept-requires : goal.is_head-kept-requires
 is_head-kept-requires c = (c.requires.side, c.requires.chains, subst (StateAsks c.args.tokens.now c.args.sums.now c.args.finals.now c.args.side c.args.used) (sym (c.loop-i.invariant.1.ahead _ (omega arith))) (c.requires.each _ c.loop-i-test.true))
 
 pub keep_if-m-requires : goal.keep_if-m-requires
 keep_if-m-requires c = let z = c.loop-i.invariant.1.same_length in let k = c.requires.long in let f = c.loop-i.invariant.1.few in let t = c.loop-i-test.true in omega arith
+
+pub overflow_step-i : goal.overflow_step-i
+overflow_step-i c = record { fits = next_fits _ _ _ c.loop-i-test.true c.ranges.n.fits }
+
+pub loop-i-smaller : goal.loop-i-smaller
+loop-i-smaller c = let t = c.loop-i-test.true in omega arith
 
 pub loop-i-preserved : goal.loop-i-preserved
 loop-i-preserved c = let t = c.loop-i-test.true in let k = c.requires.long in (omega arith, keep_next c.loop-i.invariant.1 (omega arith) _ refl _ (λ w. c.is_head-kept.ensures.is w.0 w.1 w.2) c.keep_if-m.ensures)

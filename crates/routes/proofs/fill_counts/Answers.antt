@@ -1,4 +1,5 @@
 -- The records below the one at hand are in the table.
+use Prim.Native.Nat.{◌-◌}
 use mathlib.Core.Path.{◌≡◌, refl, ◌∙◌}
 use Rattle.routes.specs.Counts.{counts_none}
 use native.Mathlib.Omega.{arith}

@@ -1,4 +1,5 @@
 -- So many are passed over, one at a time.
+use Prim.Native.Nat.{◌-◌}
 use mathlib.Core.Path.{◌≡◌}
 use native.Mathlib.Omega.{arith}
 use Rattle.routes.specs.Words.{skipped_none, skipped_next}

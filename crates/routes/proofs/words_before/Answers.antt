@@ -1,4 +1,5 @@
 -- What the longer list has more is passed over, and says the order of the newer parts.
+use Prim.Native.Nat.{◌-◌}
 use native.Mathlib.Omega.{arith}
 use Rattle.routes.specs.Before.{skipped_alike, skipped_before}
 use Rattle.routes.proofs.words_before.Goals as goal
