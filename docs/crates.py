@@ -50,7 +50,7 @@ def read_needs(path):
     for line in path.read_text(encoding="utf-8").splitlines():
         name, colon, rest = line.partition("#")[0].partition(":")
         if colon:
-            needs[name.strip()] = rest.split()
+            needs[name.split()[0]] = rest.split()
     return needs
 
 
