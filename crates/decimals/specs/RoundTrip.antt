@@ -1,11 +1,9 @@
 -- A number that is written is read back, and a text without digits is passed over. Assumes nothing.
-use Rattle.std.specs.Prelude.{◌≡◌, refl, ℕ, zero, suc, ◌+◌, ◌*◌, ◌-◌, ◌/◌, ◌%◌, ◌^◌, ◌<◌, ◌≤◌, Bool, true, false, not, List, [], ◌∷◌, ◌++◌, length}
+use Rattle.std.specs.Prelude.{◌≡◌, refl, ℕ, zero, suc, ◌+◌, ◌*◌, ◌-◌, ◌/◌, ◌%◌, ◌^◌, ◌<◌, ◌≤◌, Bool, true, false, not, List, [], ◌∷◌, ◌++◌, length, Option, Some, None}
 use Rattle.std.proofs.Common.{sym, ap, ◌∙◌, zero-le, arith, lt-ltb, le-ltb, le-leb, length-append}
 use Rattle.std.proofs.lemmas.Bool.{not-true}
 use Rattle.lists.specs.Lists.{all}
 use Rattle.lists.specs.Tests.{case, lt_or_le, and_both}
-use Rattle.decimals.specs.declared.Decimal.{Decimal}
-use Rattle.decimals.specs.declared.Decimal.TheVariants.{Number, Nothing}
 use Rattle.decimals.specs.declared.Numbers.{Numbers}
 use Rattle.decimals.specs.Numbers.{is_digit, grown_by, outside, with_digit, next_of, numbers_from, numbers_in, none}
 use Rattle.decimals.specs.Decimal.{digits, decimal, IsNumber}
@@ -83,9 +81,9 @@ pub decimals_differ : (m n : ℕ) → m < 2 ^ 32 → n < 2 ^ 32 → decimal m �
 decimals_differ m n f g e = ap (λ (s : Numbers). s.third) (sym (decimal_read m none f refl) ∙ ap numbers_in e ∙ decimal_read n none g refl)
 
 -- reading what was written gives the number again
-pub read_written : (n : ℕ) (r : Decimal) → n < 2 ^ 32 → IsNumber (decimal n) r → r ≡ Number n
-read_written n (Number m) f h = ap Number (decimals_differ m n h.0 f h.1)
-read_written n Nothing f h = absurd (h n f refl)
+pub read_written : (n : ℕ) (r : Option ℕ) → n < 2 ^ 32 → IsNumber (decimal n) r → r ≡ Some n
+read_written n (Some m) f h = ap Some (decimals_differ m n h.0 f h.1)
+read_written n None f h = absurd (h n f refl)
 
 -- ---- a text without digits
 

@@ -1,11 +1,11 @@
--- The test of the ends, one end at a time, and what it says of the end at hand. Assumes nothing.
+-- What the test of the ends says of the end at hand. Assumes nothing.
 use mathlib.Core.Path.{◌≡◌, sym, ◌∙◌}
 use Prim.Native.Nat.{ℕ, ◌+◌, ◌≤◌, ◌<◌}
-use mathlib.Core.Bool.{true, false, ◌||◌}
+use mathlib.Core.Bool.{false, ◌||◌}
 use mathlib.Core.List.{List}
 use lib.Dec.{ltb}
 use lib.ListN.{length, get_or, drop}
-use borrow.Author.Tests.{lt-ltb, le-ltb, ltb-false}
+use borrow.Author.Tests.{ltb-false}
 use Rattle.lists.specs.Tests.{or_neither}
 use Rattle.lists.specs.Members.{drop_next}
 use Rattle.model.specs.Search.{parts_wrong}
@@ -14,16 +14,7 @@ module _ (limit from : ℕ) (ends : List ℕ) (i : ℕ) (h : i < length ends) (e
   wrong_at : parts_wrong from limit (drop i ends) ≡ (ltb end from || ltb limit end || parts_wrong end limit (drop (i + 1) ends))
   wrong_at = rw (drop_next ends i 0, e)
 
-  pub falls : end < from → parts_wrong from limit (drop i ends) ≡ true
-  falls l = rw (wrong_at, lt-ltb _ _ l)
-
-  pub passes : from ≤ end → limit < end → parts_wrong from limit (drop i ends) ≡ true
-  passes g l = rw (wrong_at, le-ltb _ _ g, lt-ltb _ _ l)
-
-  pub goes_on_lem : from ≤ end → end ≤ limit → parts_wrong from limit (drop i ends) ≡ parts_wrong end limit (drop (i + 1) ends)
-  goes_on_lem g l = rw (wrong_at, le-ltb _ _ g, le-ltb _ _ l)
-
-  -- and back: where the test finds no fault
+  -- where the test finds no fault
   pub right_at : parts_wrong from limit (drop i ends) ≡ false → (from ≤ end) × (end ≤ limit) × (parts_wrong end limit (drop (i + 1) ends) ≡ false)
   right_at r =
       let (a, b) = or_neither (ltb end from || ltb limit end) (parts_wrong end limit (drop (i + 1) ends)) (sym wrong_at ∙ r) in

@@ -21,15 +21,15 @@ module _ (w : ℤ) (ends : List ℕ) (words : List ℤ) where
   pub searching_none : parts_wrong 0 (length words) ends ≡ false → Searching 0 0
   searching_none r = record { within = zero-le; right = r; found = refl }
 
-  module _ (from i end : ℕ) (s : Searching from i) (h : i < length ends) (e : end ≡ get_or ends i 0) where
-    pub end_right : (from ≤ end) × (end ≤ length words) × (parts_wrong end (length words) (drop (i + 1) ends) ≡ false)
-    end_right = right_at (length words) from ends i h end e s.right
+  module _ (from i : ℕ) (s : Searching from i) (h : i < length ends) where
+    end_right : (from ≤ get_or ends i 0) × (get_or ends i 0 ≤ length words) × (parts_wrong (get_or ends i 0) (length words) (drop (i + 1) ends) ≡ false)
+    end_right = right_at (length words) from ends i h (get_or ends i 0) refl s.right
 
-    pub found_here : contains w (take (end - from) (drop from words)) ≡ true → first_from 0 w (readings_from 0 ends words) ≡ some i
-    found_here t = s.found ∙ rw (drop_next ends i 0 h, ← e, t)
+    pub found_here : contains w (take (get_or ends i 0 - from) (drop from words)) ≡ true → first_from 0 w (readings_from 0 ends words) ≡ some i
+    found_here t = s.found ∙ rw (drop_next ends i 0 h, t)
 
-    pub searching_more : contains w (take (end - from) (drop from words)) ≡ false → Searching end (i + 1)
-    searching_more t = let (a, b, r) = end_right in record { within = omega arith; right = r; found = s.found ∙ rw (drop_next ends i 0 h, ← e, t) }
+    pub searching_more : contains w (take (get_or ends i 0 - from) (drop from words)) ≡ false → Searching (get_or ends i 0) (i + 1)
+    searching_more t = let (a, b, r) = end_right in record { within = omega arith; right = r; found = s.found ∙ rw (drop_next ends i 0 h, t) }
 
   pub found_nowhere : (from i : ℕ) → Searching from i → length ends ≤ i → first_from 0 w (readings_from 0 ends words) ≡ none
   found_nowhere from i s h = s.found ∙ rw (drop_of_length-le ends h)

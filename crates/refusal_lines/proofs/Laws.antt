@@ -1,5 +1,5 @@
 -- A line has at most 96 bytes, and tells its refusal. Assumes nothing.
-use Rattle.std.specs.Prelude.{◌≡◌, refl, ℕ, zero, suc, ◌+◌, ◌^◌, ◌<◌, ◌≤◌, Bool, true, false, ◌&&◌, List, [], ◌∷◌, ◌++◌, leb, ltb, eqb, length, get_or}
+use Rattle.std.specs.Prelude.{◌≡◌, refl, ℕ, zero, suc, ◌+◌, ◌^◌, ◌<◌, ◌≤◌, Bool, true, false, ◌&&◌, List, [], ◌∷◌, ◌++◌, leb, ltb, eqb, length, get_or, Option, Some, None, Ok}
 use Rattle.std.proofs.Common.{sym, ap, ◌∙◌, arith, ltb-true, leb-true, eqb-true, ne_eqb, length-append}
 use Rattle.lists.specs.Lists.{all}
 use Rattle.lists.specs.Tests.{case, either, and_both}
@@ -10,10 +10,7 @@ use Rattle.decimals.specs.declared.Numbers.{Numbers}
 use Rattle.refusals.specs.declared.Place.{Place}
 use Rattle.refusals.specs.declared.Place.TheVariants.{Nowhere, AtArc, AtState, AtFrames}
 use Rattle.refusals.specs.declared.Refusal.{Refusal}
-use Rattle.refusal_lines.specs.declared.Written.TheVariants.{Length}
-use Rattle.refusal_lines.specs.declared.Read.{Read}
-use Rattle.refusal_lines.specs.declared.Read.TheVariants.{Line, Nothing}
-use Rattle.refusal_lines.specs.Line.{text, numbered, unnamed, names, named, name_of, place_text, between, always_placed, may_have, heading, line_of, refusal_of}
+use Rattle.refusal_lines.specs.Line.{text, numbered, unnamed, names, named, bare_name, name_of, place_text, between, always_placed, may_have, heading, line_of, refusal_of}
 use Rattle.refusal_lines.specs.Answer.{WrittenLine, PlaceFits, Fits, IsRefusal, ReadLine}
 use Rattle.refusal_lines.specs.Laws.{just, found}
 
@@ -43,6 +40,10 @@ name_length n =
     (ltb-true _ _ (and_both (plain (name_of n)) _ a).1, leb-true _ _ b)
 
 -- ---- lengths
+
+pub name_parts : (n : ℕ) → length (name_of n) ≡ length (bare_name n) + 2
+unfolding name_of text
+name_parts n = simp length-append (omega arith)
 
 pub numbered_parts : (label : List ℕ) (n : ℕ) → length (numbered label n) ≡ length label + length (decimal n) + 1
 unfolding numbered text
@@ -119,9 +120,9 @@ pub lines_differ : (x y : Refusal) → IsRefusal x → IsRefusal y → line_of x
 lines_differ x y a b e = sym (read_back x a) ∙ ap (λ (bs : List ℕ). refusal_of (numbers_in bs)) e ∙ read_back y b
 
 -- reading a written line gives the refusal again
-pub read_written : (x : Refusal) (r : Read) → IsRefusal x → ReadLine (line_of x) r → r ≡ Line x
-read_written x (Line y) a h = ap Line (lines_differ y x h.0 a h.1)
-read_written x Nothing a h = absurd (h x a refl)
+pub read_written : (x : Refusal) (r : Option Refusal) → IsRefusal x → ReadLine (line_of x) r → r ≡ Some x
+read_written x (Some y) a h = ap Some (lines_differ y x h.0 a h.1)
+read_written x None a h = absurd (h x a refl)
 
 -- bytes that are a refusal's line have its numbers, and no other's
 pub only_refusal : (bs : List ℕ) (found : Numbers) (x y : Refusal) → found ≡ numbers_in bs → y ≡ refusal_of found → IsRefusal x → line_of x ≡ bs → y ≡ x
@@ -147,7 +148,7 @@ unfolding line_of
 line_placed x h = case (either (may_have x.number x.place)) (λ t. t) (λ t. absurd (let k = rw t at h in omega arith))
 
 -- a line that was written stands in the slice
-pub written_fits : (x : Refusal) (out left : List ℕ) (n : ℕ) → WrittenLine x out (Length n) left → n ≤ length left
+pub written_fits : (x : Refusal) (out left : List ℕ) (n : ℕ) → WrittenLine x out (Ok n) left → n ≤ length left
 written_fits x out left n (h, e, f) = rw f (simp length-append (omega (arith, e)))
 
 -- ---- samples

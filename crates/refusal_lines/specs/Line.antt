@@ -52,8 +52,11 @@ names =
 abbrev pub named : List ℕ → List ℕ
 named t = text " " ++ t ++ text ";"
 
+abbrev pub bare_name : ℕ → List ℕ
+bare_name n = get_or names n unnamed
+
 unfoldable pub name_of : ℕ → List ℕ
-name_of n = named (get_or names n unnamed)
+name_of n = named (bare_name n)
 
 -- the state and the arc counted within it from 0, the state, or the frames decoded
 unfoldable pub place_text : Place → List ℕ

@@ -3,91 +3,43 @@
 
 ghost use Rattle.std.specs.Prelude.{◌≡◌, ◌+◌, ◌≤◌, ◌<◌, length};
 ghost use Rattle.decimals.specs.Stored.{Stored};
-ghost use Rattle.refusal_lines.specs.Line.{numbered, name_of, place_text, between, always_placed, may_have, line_of, refusal_of};
+ghost use Rattle.refusal_lines.specs.Line.{numbered, bare_name, name_of, place_text, between, always_placed, may_have, line_of, refusal_of};
+ghost use Rattle.refusals.specs.Numbers.{number_of};
 ghost use Rattle.refusal_lines.specs.Answer.{WrittenLine, ReadLine};
 
 use decimals::Numbers;
-use refusals::{Place, Refusal};
+use refusals::{Place, Reason, Refusal};
 
-// The name of each number below 23, between a blank and a semicolon, in rows of 40 bytes; row 0 serves every number without one of its own.
-// The blank that a row begins with ends the line above it.
-const NAMES: [u8; 920] = *b" \
-    not known to this version;              \
-    graph too large or misshapen;           \
-    start or arc target is no state;        \
-    arc label outside the tables;           \
-    arc label has no phone;                 \
-    weight out of range;                    \
-    setting or store size out of range;     \
-    silence setting out of range;           \
-    frame of the wrong length;              \
-    frame value out of range;               \
-    too many frames, or bad segments;       \
-    output too short, or bad reading ends;  \
-    cost out of range;                      \
-    record store full;                      \
-    epsilon queue full;                     \
-    reading store full;                     \
-    output shorter than the line;           \
-    not known to this version;              \
-    not known to this version;              \
-    not known to this version;              \
-    block or output of the wrong length;    \
-    not known to this version;              \
-    course setting or frame out of range;  \
-    ";
-
-// The bytes of each row without the blanks behind its semicolon.
-const LENGTHS: [usize; 23] = [
-    27, 30, 33, 30, 24, 21, 36, 30, 27, 26, 34, 39, 19, 19, 20, 20, 30, 27, 27, 27, 37, 27, 38,
-];
-
-// What was written: a line of so many bytes, or nothing, for the refusal with this number.
-#[derive(Clone, Copy)]
-pub enum Written {
-    Length(usize),
-    Refused(u32),
-}
-
-// What the bytes are.
-#[derive(Clone, Copy)]
-pub enum Read {
-    Line(Refusal),
-    Nothing,
-}
-
-// Writes the line of a refusal to the start of `out`. 16 where that is shorter than the line; nothing is then written.
+// Writes the line of a refusal to the start of `out`, and gives its length. 16 where that is shorter than the line; nothing is then written.
 // A value that is no refusal, 0 or a place that its number cannot have, has the empty line.
-pub fn write_line(refusal: Refusal, out: &mut [u8]) -> Written
+pub fn write_line(refusal: Refusal, out: &mut [u8]) -> Result<usize, Reason>
     ensures { WrittenLine refusal out.old result out.new }
 {
     let mut line = [0u8; refusals::MAX_LINE];
     let end = compose(refusal, &mut line);
     if out.len() < end {
-        return Written::Refused(refusals::LINE_TOO_LONG);
+        return Err(Reason::LineTooLong);
     }
     put(&line[..end], out, 0);
-    Written::Length(end)
+    Ok(end)
 }
 
-// The refusal whose line the bytes are; nothing where they are no refusal's.
-pub fn read_line(bytes: &[u8]) -> Read
+// The refusal whose line the bytes are; none where they are no refusal's.
+pub fn read_line(bytes: &[u8]) -> Option<Refusal>
     ensures { ReadLine bytes.now result }
 {
     let refusal = refusal_of(decimals::numbers_in(bytes));
     let mut line = [0u8; refusals::MAX_LINE];
     let end = compose(refusal, &mut line);
-    if end == 0 {
-        return Read::Nothing;
+    if end != 0 && &line[..end] == bytes {
+        Some(refusal)
+    } else {
+        None
     }
-    let composed = &line[..end];
-    if check::same(composed, bytes) {
-        return Read::Line(refusal);
-    }
-    Read::Nothing
 }
 
 // The one refusal whose line can have these numbers. Its own number, the first, is not 0.
+#[tactic(auto, unfolding(crate::specs::Line::refusal_of))]
 fn refusal_of(found: Numbers) -> Refusal
     ensures { result ≡ refusal_of found }
 {
@@ -103,11 +55,8 @@ fn refusal_of(found: Numbers) -> Refusal
             place: Place::Nowhere,
         };
     }
-    if found.second == 5 {
-        return Refusal {
-            number: 5,
-            place: Place::AtState(found.third),
-        };
+    if found.second == Reason::BadWeight.number() {
+        return Reason::BadWeight.at(Place::AtState(found.third));
     }
     Refusal {
         number: found.second,
@@ -115,39 +64,67 @@ fn refusal_of(found: Numbers) -> Refusal
     }
 }
 
-fn between(low: u32, high: u32, number: u32) -> bool
-    ensures { result ≡ between low high number }
+fn between(low: Reason, high: Reason, number: u32) -> bool
+    ensures { result ≡ between (number_of low) (number_of high) number }
 {
-    low <= number && number <= high
+    (low.number()..=high.number()).contains(&number)
 }
 
 // Whether a refusal with this number always has a place.
+#[tactic(auto, unfolding(crate::specs::Line::always_placed))]
 fn always_placed(number: u32) -> bool
     ensures { result ≡ always_placed number }
 {
-    between(refusals::BAD_LABEL, refusals::BAD_WEIGHT, number)
-        || between(refusals::BAD_FRAME_LENGTH, refusals::BAD_LOGLIKE, number)
+    between(Reason::BadLabel, Reason::BadWeight, number)
+        || between(Reason::BadFrameLength, Reason::BadLoglike, number)
 }
 
 // Whether a refusal with this number can have this place.
+#[tactic(auto, unfolding(crate::specs::Line::may_have))]
 fn may_have(number: u32, place: Place) -> bool
     ensures { result ≡ may_have number place }
 {
     match place {
         Place::Nowhere => number != 0 && !always_placed(number),
-        Place::AtArc(_, _) => between(refusals::NO_SUCH_STATE, refusals::BAD_WEIGHT, number),
-        Place::AtState(_) => number == refusals::BAD_WEIGHT,
+        Place::AtArc(_, _) => between(Reason::NoSuchState, Reason::BadWeight, number),
+        Place::AtState(_) => number == Reason::BadWeight.number(),
         Place::AtFrames(_) => {
-            between(
-                refusals::BAD_FRAME_LENGTH,
-                refusals::TOO_MANY_FRAMES,
-                number,
-            ) || between(refusals::SUM_TOO_LARGE, refusals::QUEUE_FULL, number)
+            between(Reason::BadFrameLength, Reason::TooManyFrames, number)
+                || between(Reason::SumTooLarge, Reason::QueueFull, number)
         }
     }
 }
 
+// The name of a reason by its number, and one for every number that is no reason's.
+#[tactic(auto, unfolding(crate::specs::Line::names, crate::specs::Line::unnamed, crate::specs::Line::text))]
+fn bare_name(number: u32) -> &'static str
+    ensures { result.now ≡ bare_name number }
+{
+    match number {
+        1 => "graph too large or misshapen",
+        2 => "start or arc target is no state",
+        3 => "arc label outside the tables",
+        4 => "arc label has no phone",
+        5 => "weight out of range",
+        6 => "setting or store size out of range",
+        7 => "silence setting out of range",
+        8 => "frame of the wrong length",
+        9 => "frame value out of range",
+        10 => "too many frames, or bad segments",
+        11 => "output too short, or bad reading ends",
+        12 => "cost out of range",
+        13 => "record store full",
+        14 => "epsilon queue full",
+        15 => "reading store full",
+        16 => "output shorter than the line",
+        20 => "block or output of the wrong length",
+        22 => "course setting or frame out of range",
+        _ => "not known to this version",
+    }
+}
+
 // Writes the line from the start on, and gives its length.
+#[tactic(auto, unfolding(crate::specs::Line::line_of))]
 fn compose(refusal: Refusal, out: &mut [u8]) -> usize
     requires { 96 ≤ length out.old }
     ensures { Stored out.old 0 (line_of refusal) result out.new }
@@ -164,6 +141,7 @@ fn compose(refusal: Refusal, out: &mut [u8]) -> usize
 
 // The parts of a line, each written from a place on, with the place behind it.
 
+#[tactic(auto, unfolding(crate::specs::Line::place_text, crate::specs::Line::text))]
 fn put_place(place: Place, out: &mut [u8], at: usize) -> usize
     requires { at + length (place_text place) ≤ length out.old }
     ensures { Stored out.old at (place_text place) result out.new }
@@ -179,33 +157,17 @@ fn put_place(place: Place, out: &mut [u8], at: usize) -> usize
     }
 }
 
+#[tactic(auto, using(crate::proofs::Laws::name_parts))]
 fn put_name(number: u32, out: &mut [u8], at: usize) -> usize
     requires { at + length (name_of number) ≤ length out.old }
     ensures { Stored out.old at (name_of number) result out.new }
 {
-    if number < 23 {
-        return put_row(number as usize, out, at);
-    }
-    put_row(0, out, at)
+    let start = put(b" ", out, at);
+    let end = put(bare_name(number).as_bytes(), out, start);
+    put(b";", out, end)
 }
 
-fn put_row(row: usize, out: &mut [u8], at: usize) -> usize
-    requires { (row < 23) × (at + length (name_of row) ≤ length out.old) }
-    ensures { Stored out.old at (name_of row) result out.new }
-{
-    let names = NAMES;
-    let start = 40 * row;
-    let end = start + name_length(row);
-    put(&names[start..end], out, at)
-}
-
-fn name_length(row: usize) -> usize
-    requires { row < 23 }
-    ensures { result ≡ length (name_of row) }
-{
-    LENGTHS[row]
-}
-
+#[tactic(auto, using(crate::proofs::Laws::numbered_parts))]
 fn put_number(label: &[u8], number: u32, out: &mut [u8], at: usize) -> usize
     requires { at + length (numbered label.now number) ≤ length out.old }
     ensures { Stored out.old at (numbered label.now number) result out.new }
@@ -220,10 +182,7 @@ fn put(part: &[u8], out: &mut [u8], at: usize) -> usize
     requires { at + length part.now ≤ length out.old }
     ensures { Stored out.old at part.now result out.new }
 {
-    let mut i = 0;
-    while i < part.len() {
-        out[at + i] = part[i];
-        i += 1;
-    }
-    at + i
+    let end = at + part.len();
+    out[at..end].copy_from_slice(part);
+    end
 }

@@ -1,8 +1,11 @@
-// Refusals: their numbers, their places, and the limits that they are judged by.
+// Refusals: their reasons, their places, and the limits that they are judged by.
 #![tactic(auto)]
 
+ghost use Rattle.std.specs.Prelude.{◌≡◌};
+ghost use Rattle.refusals.specs.Numbers.{number_of, refused_at};
+
 // Where a refusal was met.
-#[derive(Clone, Copy)]
+#[derive(Clone, Copy, Debug, PartialEq, Eq)]
 pub enum Place {
     Nowhere,
     // a state, and an arc counted within it
@@ -12,68 +15,74 @@ pub enum Place {
     AtFrames(u32),
 }
 
-// A number, and where it was met.
-#[derive(Clone, Copy)]
+// A refusal as it is recorded and read back: the number of its reason, or one that a later version gave, and where it was met.
+#[derive(Clone, Copy, Debug, PartialEq, Eq)]
 pub struct Refusal {
     pub number: u32,
     pub place: Place,
 }
 
-// ---- the numbers
+// ---- the reasons
 
-// Of the graph builder: its counts, its offsets or the lengths of its slices.
-pub const BAD_SHAPE: u32 = 1;
+// Why a call is refused. Each has its number.
+#[derive(Clone, Copy, Debug, PartialEq, Eq)]
+pub enum Reason {
+    // Of the graph builder: its counts, its offsets or the lengths of its slices.
+    BadShape = 1,
+    // A start or an arc's target that is no state.
+    NoSuchState = 2,
+    // An input label below 0, past a table, or with a pdf out of range.
+    BadLabel = 3,
+    // A used label whose phone is below 1.
+    BadPhone = 4,
+    // An arc weight or a final weight.
+    BadWeight = 5,
+    // Settings or lent stores of a fitting, a keep margin, or the counts asked of a read.
+    BadSetting = 6,
+    // Settings of the silence weighting.
+    BadSilenceSetting = 7,
+    // A frame that is not as long as there are pdfs.
+    BadFrameLength = 8,
+    // A log-likelihood that is not finite, or of magnitude 2^100 or more.
+    BadLoglike = 9,
+    // A frame after the last, or a silence call that needs, names or brings too many.
+    TooManyFrames = 10,
+    // An output slice shorter than the whole answer, or a reading list brought to the search whose parts fall or overrun its words.
+    TooShort = 11,
+    // A total or a graph sum of magnitude 2^100 or more.
+    SumTooLarge = 12,
+    // Live records fill the store.
+    RecordsFull = 13,
+    // The epsilon queue is full.
+    QueueFull = 14,
+    // The lists below joins, or the kept readings, have more entries than their store.
+    ListsFull = 15,
+    // An output slice shorter than a refusal's line.
+    LineTooLong = 16,
+    // A block to shuffle or unshuffle whose length is not divisible by four, or an output of another length.
+    BadBlock = 20,
+    // Courses, or the frames in which they are knitted, outside their range, or a frame above its limit.
+    BadCourse = 22,
+}
 
-// A start or an arc's target that is no state.
-pub const NO_SUCH_STATE: u32 = 2;
+impl Reason {
+    // The number that C and the panel record know it by.
+    pub fn number(self) -> u32
+        ensures { result ≡ number_of self }
+    {
+        self as u32
+    }
 
-// An input label below 0, past a table, or with a pdf out of range.
-pub const BAD_LABEL: u32 = 3;
-
-// A used label whose phone is below 1.
-pub const BAD_PHONE: u32 = 4;
-
-// An arc weight or a final weight.
-pub const BAD_WEIGHT: u32 = 5;
-
-// Settings or lent stores of a fitting, a keep margin, or the counts asked of a read.
-pub const BAD_SETTING: u32 = 6;
-
-// Settings of the silence weighting.
-pub const BAD_SILENCE_SETTING: u32 = 7;
-
-// A frame that is not as long as there are pdfs.
-pub const BAD_FRAME_LENGTH: u32 = 8;
-
-// A log-likelihood that is not finite, or of magnitude 2^100 or more.
-pub const BAD_LOGLIKE: u32 = 9;
-
-// A frame after the last, or a silence call that needs, names or brings too many.
-pub const TOO_MANY_FRAMES: u32 = 10;
-
-// An output slice shorter than the whole answer, or a reading list brought to the search whose parts fall or overrun its words.
-pub const TOO_SHORT: u32 = 11;
-
-// A total or a graph sum of magnitude 2^100 or more.
-pub const SUM_TOO_LARGE: u32 = 12;
-
-// Live records fill the store.
-pub const RECORDS_FULL: u32 = 13;
-
-// The epsilon queue is full.
-pub const QUEUE_FULL: u32 = 14;
-
-// The lists below joins, or the kept readings, have more entries than their store.
-pub const LISTS_FULL: u32 = 15;
-
-// An output slice shorter than a refusal's line.
-pub const LINE_TOO_LONG: u32 = 16;
-
-// A block to shuffle or unshuffle whose length is not divisible by four, or an output of another length.
-pub const BAD_BLOCK: u32 = 20;
-
-// Courses, or the frames in which they are knitted, outside their range, or a frame above its limit.
-pub const BAD_COURSE: u32 = 22;
+    // The refusal for this reason, met at a place.
+    pub fn at(self, place: Place) -> Refusal
+        ensures { result ≡ refused_at self place }
+    {
+        Refusal {
+            number: self.number(),
+            place,
+        }
+    }
+}
 
 // ---- the limits
 

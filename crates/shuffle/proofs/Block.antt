@@ -1,12 +1,11 @@
 -- A block of four-byte numbers, and the same bytes by their place in the number. Assumes nothing.
-use Rattle.std.specs.Prelude.{◌≡◌, refl, ℕ, ◌/◌, ◌%◌, false, not, eqb, length}
+use Rattle.std.specs.Prelude.{◌≡◌, refl, ℕ, ◌/◌, ◌%◌, false, not, eqb, length, Ok}
 use Rattle.std.proofs.Common.{ap, ◌∙◌, arith, eqb-true}
 use mathlib.Core.List.{List, [], ◌∷◌, flat_map}
 use Rattle.std.proofs.lemmas.Bool.{not-false}
 use Rattle.lists.specs.Tests.{case, either, or_neither}
 use Rattle.shuffle.specs.Transpose.{transpose}
 use Rattle.shuffle.proofs.Transpose.{transpose-length, twice}
-use Rattle.shuffle.specs.declared.Shuffled.TheVariants.{Done}
 use Rattle.shuffle.specs.Block.{shuffled, unshuffled, wrong, Rearranged}
 
 -- ---- two numbers, computed
@@ -40,8 +39,13 @@ right block output w =
     let (a, b) = or_neither (not (eqb (block % 4) 0)) (not (eqb output block)) w in
     (eqb-true (block % 4) 0 (not-false (eqb (block % 4) 0) a), eqb-true output block (not-false (eqb output block) b))
 
+-- what fills the output with the answer's bytes is done
+module _ (by : List ℕ → List ℕ) (block output : List ℕ) where
+  pub done : wrong (length block) (length output) ≡ false → (left : List ℕ) → left ≡ by block → Rearranged by block output (Ok tt) left
+  done w left p = record { answers = rw w; leaves = rw w p }
+
 -- what a call that is done leaves
-written : {by : List ℕ → List ℕ} {block output left : List ℕ} → Rearranged by block output Done left → (length block % 4 ≡ 0) × (left ≡ by block)
+written : {by : List ℕ → List ℕ} {block output left : List ℕ} → Rearranged by block output (Ok tt) left → (length block % 4 ≡ 0) × (left ≡ by block)
 written {by} {block} {output} r =
     case (either (wrong (length block) (length output)))
     (λ w. let f = rw w at r.answers in let z : ◌≡◌ {A = ℕ} 0 1 = cc in absurd (omega arith))
@@ -49,8 +53,8 @@ written {by} {block} {output} r =
 
 -- so in the contracts' words
 module _ (block output output' there back : List ℕ) where
-  pub unshuffle_after_shuffle : Rearranged shuffled block output Done there → Rearranged unshuffled there output' Done back → back ≡ block
+  pub unshuffle_after_shuffle : Rearranged shuffled block output (Ok tt) there → Rearranged unshuffled there output' (Ok tt) back → back ≡ block
   unshuffle_after_shuffle r r' = let (h, e) = written r in (written r').1 ∙ ap unshuffled e ∙ unshuffled_shuffled block h
 
-  pub shuffle_after_unshuffle : Rearranged unshuffled block output Done there → Rearranged shuffled there output' Done back → back ≡ block
+  pub shuffle_after_unshuffle : Rearranged unshuffled block output (Ok tt) there → Rearranged shuffled there output' (Ok tt) back → back ≡ block
   shuffle_after_unshuffle r r' = let (h, e) = written r in (written r').1 ∙ ap shuffled e ∙ shuffled_unshuffled block h

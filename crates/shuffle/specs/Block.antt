@@ -1,9 +1,9 @@
 -- A block of four-byte numbers, and the same bytes by their place in the number. Assumes nothing.
-use Rattle.std.specs.Prelude.{◌≡◌, ℕ, ◌/◌, ◌%◌, Bool, not, ◌||◌, cond, eqb, length}
+use Rattle.std.specs.Prelude.{◌≡◌, ℕ, ◌/◌, ◌%◌, Bool, not, ◌||◌, cond, eqb, length, Result, Ok, Err}
 use mathlib.Core.List.{List}
+use Rattle.refusals.specs.declared.Reason.{Reason}
+use Rattle.refusals.specs.declared.Reason.TheVariants.{BadBlock}
 use Rattle.shuffle.specs.Transpose.{transpose}
-use Rattle.shuffle.specs.declared.Shuffled.{Shuffled}
-use Rattle.shuffle.specs.declared.Shuffled.TheVariants.{Done, Refused}
 
 -- all first bytes, then all second, third and fourth: a table with a row for each number is transposed
 abbrev pub shuffled : List ℕ → List ℕ
@@ -18,6 +18,6 @@ abbrev pub wrong : (block output : ℕ) → Bool
 wrong block output = not (eqb (block % 4) 0) || not (eqb output block)
 
 -- what a call answers, and what it leaves in the output: unchanged where it refuses
-pub record Rearranged (by : List ℕ → List ℕ) (block output : List ℕ) (answer : Shuffled) (left : List ℕ) : Type 0 where
-  pub answers : answer ≡ cond (wrong (length block) (length output)) (Refused 20) Done
+pub record Rearranged (by : List ℕ → List ℕ) (block output : List ℕ) (answer : Result (Unit {0}) Reason) (left : List ℕ) : Type 0 where
+  pub answers : answer ≡ cond (wrong (length block) (length output)) (Err BadBlock) (Ok tt)
   pub leaves : left ≡ cond (wrong (length block) (length output)) output (by block)

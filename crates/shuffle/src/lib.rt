@@ -4,45 +4,38 @@
 ghost use Rattle.std.specs.Prelude.{◌≡◌};
 ghost use Rattle.shuffle.specs.Block.{wrong, shuffled, unshuffled, Rearranged};
 
-// Whether the output was written, or the number of the refusal.
-#[derive(Clone, Copy)]
-pub enum Shuffled {
-    Done,
-    Refused(u32),
-}
+use refusals::Reason;
 
 // Writes all first bytes, then all second, third and fourth. Refused by 20 where the length is not divisible by four, or the output has another.
-pub fn shuffle(block: &[u8], output: &mut [u8]) -> Shuffled
+pub fn shuffle(block: &[u8], output: &mut [u8]) -> Result<(), Reason>
     ensures { Rearranged shuffled block.now output.old result output.new }
 {
     if is_wrong(block.len(), output.len()) {
-        return Shuffled::Refused(refusals::BAD_BLOCK);
+        return Err(Reason::BadBlock);
     }
     let n = block.len() / 4;
-    let mut i = 0;
-    while i < n {
+    for i in 0..n {
         let at = i * 4;
         output[i] = block[at];
         output[n + i] = block[at + 1];
         output[2 * n + i] = block[at + 2];
         output[3 * n + i] = block[at + 3];
-        i += 1;
     }
-    Shuffled::Done
+    Ok(())
 }
 
 // The way back: writes the numbers from their first bytes, second, third and fourth. Refused as `shuffle` is.
-pub fn unshuffle(block: &[u8], output: &mut [u8]) -> Shuffled
+pub fn unshuffle(block: &[u8], output: &mut [u8]) -> Result<(), Reason>
     ensures { Rearranged unshuffled block.now output.old result output.new }
 {
     if is_wrong(block.len(), output.len()) {
-        return Shuffled::Refused(refusals::BAD_BLOCK);
+        return Err(Reason::BadBlock);
     }
     let n = block.len() / 4;
     let third = 2 * n;
     let fourth = 3 * n;
     let mut i = 0;
-    // The later tests follow from the first. With the first alone the compiler takes no vectors (docs/SPEED.md).
+    // The later tests follow from the first. With the first alone, and so with a `for`, the compiler takes no vectors, and a block takes up to ten times as long (docs/SPEED.md).
     while i < n && n + i < third && third + i < fourth && fourth + i < block.len() {
         let at = i * 4;
         output[at] = block[i];
@@ -51,7 +44,7 @@ pub fn unshuffle(block: &[u8], output: &mut [u8]) -> Shuffled
         output[at + 3] = block[fourth + i];
         i += 1;
     }
-    Shuffled::Done
+    Ok(())
 }
 
 // Whether 20 refuses these lengths.

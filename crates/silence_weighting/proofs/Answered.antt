@@ -1,21 +1,22 @@
 -- The calls' answers by the outcomes of their tests. Assumes nothing.
 use mathlib.Core.Path.{◌≡◌, refl, sym}
-use Prim.Native.Nat.{ℕ, ◌-◌, ◌^◌}
+use Prim.Native.Nat.{ℕ}
 use mathlib.Core.Bool.{Bool, true, false, ◌||◌, cond}
 use mathlib.Core.List.{List}
 use lib.IntN.{ℤ}
-use lib.Dec.{leb, ltb}
-use lib.ListN.{length}
 use lib.Ieee.{Float}
 use Rattle.lists.specs.Tests.{never}
+use Rattle.std.specs.Prelude.{Option, Some, None, Result, Ok, Err}
+use Rattle.refusals.specs.declared.Reason.{Reason}
+use Rattle.refusals.specs.declared.Reason.TheVariants.{BadSilenceSetting, TooManyFrames, TooShort}
+use Rattle.refusals.specs.Numbers.{number_of}
 use Rattle.model.specs.Basics.{Outcome, ok, refused}
-use Rattle.model.specs.Silence.{SilenceWeighting as Weighting, with_info, weighting_wrong, too_many, bad_segments, grown, tell_from, compute_current_traceback, Deltas, ceil_div}
+use Rattle.model.specs.Silence.{SilenceWeighting as Weighting, with_info, weighting_wrong, too_many, bad_segments, grown, tell_from, compute_current_traceback, Deltas}
 use Rattle.silence_weighting.specs.declared.SilenceWeighting.{SilenceWeighting}
 use Rattle.silence_weighting.specs.State.{places, state_of, segments_of}
 use Rattle.silence_weighting.specs.declared.Window.{Window}
-use Rattle.silence_weighting.specs.declared.Plan.{Plan}
+use Rattle.silence_weighting.specs.declared.Write.{Write}
 use Rattle.silence_weighting.specs.Answers.{brought}
-use Rattle.silence_weighting.specs.Parts.{pick, window_of, deltas_on, plan_of}
 
 abbrev traced_for : (wrong long much bad : Bool) → Weighting → Outcome Weighting
 traced_for wrong long much bad d = cond wrong (refused 7) (cond long (refused 10) (elim (much || bad) [ true ↦ refused 10 | false ↦ ok d ]))
@@ -38,30 +39,20 @@ weighed_for wrong long late early none much short nothing full =
     let none_yet : Outcome Deltas = ok nothing in
     cond wrong (refused 7) (cond long (refused 10) (elim (late || early || much) [ true ↦ refused 10 | false ↦ elim none [ true ↦ none_yet | false ↦ some-yet ] ]))
 
-abbrev plan_for : (wrong long late early none much short : Bool) → Window → ℕ → Plan
+abbrev plan_for : (wrong long late early none much short : Bool) → Window → ℕ → Result (Option Write) Reason
 plan_for wrong long late early none much short w c =
-    pick wrong (Plan.Refused 7) (pick long (Plan.Refused 10) (pick late (Plan.Refused 10) (pick early (Plan.Refused 10) (pick none Plan.Nothing (pick much (Plan.Refused 10) (pick short (Plan.Refused 11) (Plan.Write w c)))))))
-
-pub decided : (s : SilenceWeighting) (ready from room : ℕ) (ss : List ℕ) (ws : List Float) {wrong long late early none much short : Bool}
-    → let n = ceil_div (ready - from) s.subsampling in
-    let w = window_of s n from ss ws in
-    let c = length (deltas_on w ss ws) in
-    weighting_wrong s.weight s.subsampling ≡ wrong → too_many (places ss ws) s.frames ≡ long → ltb (2 ^ 32) ready ≡ late → ltb (2 ^ 32) from ≡ early → leb ready from ≡ none
-    → too_many (places ss ws) n ≡ much → ltb room c ≡ short → plan_for wrong long late early none much short w c ≡ plan_of s ready from room ss ws
-unfolding plan_of
-decided s ready from room ss ws p q r t u v x =
-    let w = window_of s (ceil_div (ready - from) s.subsampling) from ss ws in
-    sym (λ i. plan_for (p i) (q i) (r i) (t i) (u i) (v i) (x i) w (length (deltas_on w ss ws)))
+    cond wrong (Err BadSilenceSetting) (cond long (Err TooManyFrames) (cond late (Err TooManyFrames) (cond early (Err TooManyFrames)
+    (cond none (Ok None) (cond much (Err TooManyFrames) (cond short (Err TooShort) (Ok (Some (record { window = w; count = c })))))))))
 
 -- what a plan says of the definition's answer; where it writes, F holds
-abbrev pub Planned : (nothing full : Deltas) → Window → ℕ → (F : Type 0) → Plan → Outcome Deltas → Type 0
-Planned nothing full w c F (Plan.Refused n) e = e ≡ refused n
-Planned nothing full w c F Plan.Nothing e = e ≡ ok nothing
-Planned nothing full w c F (Plan.Write v n) e = ((v ≡ w) × (n ≡ c)) × ((e ≡ ok full) × F)
+abbrev pub Planned : (nothing full : Deltas) → Write → (F : Type 0) → Result (Option Write) Reason → Outcome Deltas → Type 0
+Planned nothing full w F (Err r) e = e ≡ refused (number_of r)
+Planned nothing full w F (Ok None) e = e ≡ ok nothing
+Planned nothing full w F (Ok (Some v)) e = (v ≡ w) × ((e ≡ ok full) × F)
 
 pub planned : (wrong long late early none much short : Bool) (nothing full : Deltas) (w : Window) (c : ℕ) (F : Type 0) → (wrong ≡ false → none ≡ true → much ≡ false)
     → (wrong ≡ false → long ≡ false → early ≡ false → much ≡ false → short ≡ false → F)
-    → Planned nothing full w c F (plan_for wrong long late early none much short w c) (weighed_for wrong long late early none much short nothing full)
+    → Planned nothing full (record { window = w; count = c }) F (plan_for wrong long late early none much short w c) (weighed_for wrong long late early none much short nothing full)
 planned true long late early none much short x y w c F h f = refl
 planned false true late early none much short x y w c F h f = refl
 planned false false true early none much short x y w c F h f = refl
@@ -70,4 +61,4 @@ planned false false false false true true short x y w c F h f = never (sym (h re
 planned false false false false true false short x y w c F h f = refl
 planned false false false false false true short x y w c F h f = refl
 planned false false false false false false true x y w c F h f = refl
-planned false false false false false false false x y w c F h f = ((refl, refl), (refl, f refl refl refl refl refl))
+planned false false false false false false false x y w c F h f = (refl, (refl, f refl refl refl refl refl))

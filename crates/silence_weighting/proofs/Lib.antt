@@ -1,6 +1,5 @@
 -- Laws of this crate's proofs.
 pub mod Runs
-pub mod Ints
 pub mod Steps
 pub mod Segments
 pub mod Told

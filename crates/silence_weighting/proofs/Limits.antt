@@ -1,19 +1,26 @@
 -- What a call knows once the tests of its numbers have passed. Assumes nothing.
-use mathlib.Core.Path.{◌≡◌}
+use mathlib.Core.Path.{◌≡◌, refl}
 use Prim.Native.Nat.{ℕ, ◌+◌, ◌-◌, ◌^◌, ◌≤◌, ◌<◌}
 use native.Mathlib.Nat.{div-eq_of_lt}
 use native.Mathlib.Omega.{arith}
-use mathlib.Core.Bool.{false, ◌&&◌}
+use mathlib.Core.Bool.{Bool, true, false, ◌&&◌}
 use mathlib.Core.List.{List}
 use lib.Dec.{leb, ltb}
 use lib.Ieee.{Float}
 use borrow.Author.Tests.{ltb-false, leb-true, not-false, le-ltb}
 use Rattle.lists.specs.Tests.{or_neither, and_both}
+use Rattle.std.specs.Prelude.{⊤, Ok}
+use Rattle.refusals.specs.declared.Reason.{Reason}
 use Rattle.real32.specs.Small.{tame}
 use Rattle.model.specs.Silence.{weighting_wrong, too_many, ceil_div}
 use Rattle.silence_weighting.specs.declared.SilenceWeighting.{SilenceWeighting}
 use Rattle.silence_weighting.specs.State.{places}
-use Rattle.silence_weighting.specs.Parts.{Sound, window_of}
+use Rattle.silence_weighting.specs.Parts.{unless, Sound, window_of}
+
+-- a check that let the call go on
+pub passed : (b : Bool) (r : Reason) (x : ⊤) → Ok x ≡ unless b r → b ≡ false
+passed true r x e = cc
+passed false r x e = refl
 
 pub fair : (weight : Float) (subsampling : ℕ) → weighting_wrong weight subsampling ≡ false → (1 ≤ subsampling) × (subsampling ≤ 16)
 unfolding weighting_wrong

@@ -12,14 +12,13 @@ use lib.ListN.{length}
 use lib.Ieee.{Float}
 use borrow.Author.Tests.{le-ltb}
 use Rattle.lists.specs.Tests.{case}
+use Rattle.std.specs.Prelude.{Ok}
 use Rattle.model.specs.Basics.{Outcome, ok, refused}
 use Rattle.model.specs.Silence.{SilenceWeighting as Weighting, with_info, grown, tell_from, weighting_wrong, new_silence, too_many, bad_segments, compute_current_traceback, Deltas, deltas_of, ceil_div, get_delta_weights}
 use Rattle.silence_weighting.specs.declared.SilenceWeighting.{SilenceWeighting}
-use Rattle.silence_weighting.specs.declared.Next.{Next}
-use Rattle.silence_weighting.specs.declared.Weighed.{Weighed}
 use Rattle.silence_weighting.specs.State.{frame_at, info_of, state_of, places, segments_of}
 use Rattle.silence_weighting.specs.Answers.{brought, NewRight, TracebackRight, Memory, deltas_in, DeltasRight}
-use Rattle.silence_weighting.proofs.Runs.{length_range}
+use Rattle.lists.specs.Parts.{range_many}
 use Rattle.silence_weighting.proofs.Told.{grown-length, tell-length}
 use Rattle.silence_weighting.proofs.Limits.{few_frames}
 use Rattle.silence_weighting.proofs.Weighs.{deltas_are_lem}
@@ -62,7 +61,7 @@ few store n h k = rw (le-ltb 65_536 n h, le-ltb store n k)
 
 frames_of : (ps : List ℤ) (s : SilenceWeighting) (ss : List ℕ) (ws : List Float) → length (state_of ps s ss ws).info ≡ s.frames
 unfolding state_of info_of
-frames_of ps s ss ws = length_range (frame_at ss ws) 0 s.frames
+frames_of ps s ss ws = range_many (frame_at ss ws) 0 s.frames
 
 -- the settings stay, and the list has t frames
 kept : (ps : List ℤ) (s s' : SilenceWeighting) (store t : ℕ) (ss : List ℕ) (ws : List Float) (st : Weighting) → state_of ps s' ss ws ≡ st → st.weight ≡ s.weight → st.subsampling ≡ s.subsampling → length st.info ≡ t
@@ -76,7 +75,7 @@ kept ps s s' store t ss ws st e hw hf hl a h k =
 
 -- ---- each call
 
-pub own_new : (weight : Float) (subsampling : ℕ) (s : SilenceWeighting) (store : ℕ) → NewRight weight subsampling (Next.State s) → Own s store
+pub own_new : (weight : Float) (subsampling : ℕ) (s : SilenceWeighting) (store : ℕ) → NewRight weight subsampling (Ok s) → Own s store
 unfolding new_silence
 own_new weight subsampling s store r =
     let fresh : Weighting = record { phones = []; weight = weight; subsampling = subsampling; info = [] } in
@@ -84,7 +83,7 @@ own_new weight subsampling s store r =
     kept [] (record { weight = weight; subsampling = subsampling; frames = 0 }) s store 0 [] [] fresh x.1 refl refl refl x.0 (omega arith) (omega arith)
 
 pub own_traced : (s s' : SilenceWeighting) (ps phones : List ℤ) (starts ends : List ℕ) (n : ℕ) (ss : List ℕ) (ws : List Float) (ss' : List ℕ) (ws' : List Float)
-    → TracebackRight s ps phones starts ends n ss ws (Next.State s') ss' ws' → length ss' ≡ length ss → length ws' ≡ length ws → Own s' (places ss' ws')
+    → TracebackRight s ps phones starts ends n ss ws (Ok s') ss' ws' → length ss' ≡ length ss → length ws' ≡ length ws → Own s' (places ss' ws')
 unfolding brought compute_current_traceback state_of
 own_traced s s' ps phones starts ends n ss ws ss' ws' r hs hw =
     let store = places ss ws in
@@ -109,7 +108,7 @@ weighed false false false true short x y z e = (refl, inl (inside x y e))
 weighed false false false false true x y z e = absurd (accepted 11 x e)
 weighed false false false false false x y z e = (refl, inr (inside x z e))
 
-pub own_weighed : (s s' : SilenceWeighting) (ready from c : ℕ) (m m' : Memory) → DeltasRight s ready from m (Weighed.Deltas s' c) m'
+pub own_weighed : (s s' : SilenceWeighting) (ready from c : ℕ) (m m' : Memory) → DeltasRight s ready from m (Ok (record { next = s'; count = c })) m'
     → length m'.status ≡ length m.status → length m'.weights ≡ length m.weights → Own s' (places m'.status m'.weights)
 unfolding brought get_delta_weights state_of
 own_weighed s s' ready from c m m' r hs hw =

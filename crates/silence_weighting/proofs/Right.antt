@@ -10,12 +10,13 @@ use lib.ListN.{length, drop, replicate, length-map}
 use lib.Seq.{sets}
 use lib.Ieee.{Float}
 use borrow.Author.Tests.{ltb-false, leb-true}
+use Rattle.std.specs.Prelude.{Option, Some, None, Result, Ok, Err}
+use Rattle.refusals.specs.declared.Reason.{Reason}
 use Rattle.model.specs.Basics.{Outcome, ok}
 use Rattle.model.specs.Silence.{weighting_wrong, too_many, Deltas, deltas_of, ceil_div, get_delta_weights}
 use Rattle.silence_weighting.specs.declared.SilenceWeighting.{SilenceWeighting}
 use Rattle.silence_weighting.specs.declared.Window.{Window}
-use Rattle.silence_weighting.specs.declared.Plan.{Plan}
-use Rattle.silence_weighting.specs.declared.Weighed.{Weighed}
+use Rattle.silence_weighting.specs.declared.Write.{Write}
 use Rattle.silence_weighting.specs.State.{places, state_of}
 use Rattle.silence_weighting.specs.Answers.{brought, Memory, deltas_in, DeltasRight}
 use Rattle.silence_weighting.specs.Parts.{weights_on, deltas_on, window_of, plan_of, Sound, Wrote}
@@ -46,7 +47,10 @@ module _ (s : SilenceWeighting) (ready from : ℕ) (ss : List ℕ) (ws : List Fl
   abbrev memory : Memory
   memory = record { status = ss; weights = ws; frames = fs; deltas = ds }
 
-  abbrev plan : Plan
+  abbrev all : Write
+  all = record { window = w; count = length (deltas_on w ss ws) }
+
+  abbrev plan : Result (Option Write) Reason
   plan = plan_of s ready from room ss ws
 
   module _ (ps : List ℤ) where
@@ -64,10 +68,10 @@ module _ (s : SilenceWeighting) (ready from : ℕ) (ss : List ℕ) (ws : List Fl
     answer_is = ap (λ (b : Bool). weighed_for (weighting_wrong s.weight s.subsampling) (too_many (places ss ws) s.frames) (ltb (2 ^ 32) ready) (ltb (2 ^ 32) from) (leb ready from) (too_many (places ss ws) n) b nothing full)
         (ap (λ d. ltb room (length d)) (deltas_told s n from ss ws ps))
 
-    plan_says : Planned nothing full w (length (deltas_on w ss ws)) (Within s n ss ws fs ds w) plan answer
+    plan_says : Planned nothing full all (Within s n ss ws fs ds w) plan answer
     unfolding plan_of
     plan_says =
-        subst (λ (e : Outcome Deltas). Planned nothing full w (length (deltas_on w ss ws)) (Within s n ss ws fs ds w) plan e) (sym answer_is)
+        subst (λ (e : Outcome Deltas). Planned nothing full all (Within s n ss ws fs ds w) plan e) (sym answer_is)
         (planned (weighting_wrong s.weight s.subsampling) (too_many (places ss ws) s.frames) (ltb (2 ^ 32) ready) (ltb (2 ^ 32) from) (leb ready from) (too_many (places ss ws) n) (ltb room (length (deltas_on w ss ws))) nothing full w (length (deltas_on w ss ws)) (Within s n ss ws fs ds w)
         (λ a b. none_needed (places ss ws) ready from s.subsampling (fair s.weight s.subsampling a).0 (leb-true ready from b))
         (λ a b c d e. record {
@@ -77,19 +81,19 @@ module _ (s : SilenceWeighting) (ready from : ℕ) (ss : List ℕ) (ws : List Fl
           room = ltb-false room (length (deltas_on w ss ws)) e;
         }))
 
-    says : (p : Plan) → plan ≡ p → Planned nothing full w (length (deltas_on w ss ws)) (Within s n ss ws fs ds w) p answer
-    says p e = subst (λ (q : Plan). Planned nothing full w (length (deltas_on w ss ws)) (Within s n ss ws fs ds w) q answer) e plan_says
+    says : (p : Result (Option Write) Reason) → plan ≡ p → Planned nothing full all (Within s n ss ws fs ds w) p answer
+    says p e = subst (λ (q : Result (Option Write) Reason). Planned nothing full all (Within s n ss ws fs ds w) q answer) e plan_says
 
-  pub refused_right : (k : ℕ) → plan ≡ Plan.Refused k → DeltasRight s ready from memory (Weighed.Refused k) memory
-  refused_right k e = record { answer = λ ps. sym (says ps (Plan.Refused k) e); kept = refl }
+  pub refused_right : (r : Reason) → plan ≡ Err r → DeltasRight s ready from memory (Err r) memory
+  refused_right r e = record { answer = λ ps. sym (says ps (Err r) e); kept = refl }
 
-  pub nothing_right : plan ≡ Plan.Nothing → DeltasRight s ready from memory (Weighed.Deltas s 0) memory
+  pub nothing_right : plan ≡ Ok None → DeltasRight s ready from memory (Ok (record { next = s; count = 0 })) memory
   unfolding deltas_in
-  nothing_right e = record { answer = λ ps. sym (says ps Plan.Nothing e); kept = ((refl, refl), (refl, refl)) }
+  nothing_right e = record { answer = λ ps. sym (says ps (Ok None) e); kept = ((refl, refl), (refl, refl)) }
 
   -- the window that is written
-  pub write_fits : (v : Window) (c : ℕ) → plan ≡ Plan.Write v c → Within s n ss ws fs ds v
-  write_fits v c e = let x = says [] (Plan.Write v c) e in subst (Within s n ss ws fs ds) (sym x.0.0) x.1.1
+  pub write_fits : (v : Write) → plan ≡ Ok (Some v) → Within s n ss ws fs ds v.window
+  write_fits v e = let x = says [] (Ok (Some v)) e in subst (λ (u : Write). Within s n ss ws fs ds u.window) (sym x.0) x.1.1
 
   module _ (f : Within s n ss ws fs ds w) (ss' : List ℕ) (ws' : List Float) (fs' : List ℕ) (ds' : List Float) (hs : ss' ≡ sets ss w.listed (replicate (w.total - w.listed) 0)) (h : Wrote w ss ws fs ds ws' fs' ds') where
     written_answer : (ps : List ℤ)
@@ -101,13 +105,13 @@ module _ (s : SilenceWeighting) (ready from : ℕ) (ss : List ℕ) (ws : List Fl
         (ap₂ (deltas_in (length (deltas_on w ss ws))) h.frames h.deltas ∙ read_back (deltas_on w ss ws) fs ds (omega (arith, f.room)) (omega (arith, f.room)))
         ∙ sym (deltas_are_lem s n from ss ws ps (omega (arith, f.store)) (omega (arith, f.store)) (omega (arith, f.list)) (omega (arith, f.list)))
 
-    written_right : plan ≡ Plan.Write w (length (deltas_on w ss ws))
-        → DeltasRight s ready from memory (Weighed.Deltas (record { weight = s.weight; subsampling = s.subsampling; frames = w.total }) (length (deltas_on w ss ws))) (record { status = ss'; weights = ws'; frames = fs'; deltas = ds' })
+    written_right : plan ≡ Ok (Some all)
+        → DeltasRight s ready from memory (Ok (record { next = record { weight = s.weight; subsampling = s.subsampling; frames = w.total }; count = length (deltas_on w ss ws) })) (record { status = ss'; weights = ws'; frames = fs'; deltas = ds' })
     unfolding window_of
     written_right e =
         let ds₀ = deltas_on w ss ws in
         record {
-          answer = λ ps. ap ok (written_answer ps) ∙ sym (says ps (Plan.Write w (length ds₀)) e).1.0;
+          answer = λ ps. ap ok (written_answer ps) ∙ sym (says ps (Ok (Some all)) e).1.0;
           kept = (
             (
               ap (drop w.total) hs ∙ drop_stored ss w.listed w.total 0 w.total (omega arith),
@@ -120,13 +124,11 @@ module _ (s : SilenceWeighting) (ready from : ℕ) (ss : List ℕ) (ws : List Fl
           );
         }
 
-  pub write_right : (v : Window) (c : ℕ) (ss' : List ℕ) (ws' : List Float) (fs' : List ℕ) (ds' : List Float) → plan ≡ Plan.Write v c
-      → ss' ≡ sets ss v.listed (replicate (v.total - v.listed) 0) → Wrote v ss ws fs ds ws' fs' ds'
-      → DeltasRight s ready from memory (Weighed.Deltas (record { weight = s.weight; subsampling = s.subsampling; frames = v.total }) c) (record { status = ss'; weights = ws'; frames = fs'; deltas = ds' })
-  write_right v c ss' ws' fs' ds' e =
-      let x = says [] (Plan.Write v c) e in
-      subst (λ (u : Window). ss' ≡ sets ss u.listed (replicate (u.total - u.listed) 0) → Wrote u ss ws fs ds ws' fs' ds'
-      → DeltasRight s ready from memory (Weighed.Deltas (record { weight = s.weight; subsampling = s.subsampling; frames = u.total }) c) (record { status = ss'; weights = ws'; frames = fs'; deltas = ds' })) (sym x.0.0)
-      (subst (λ (k : ℕ). ss' ≡ sets ss w.listed (replicate (w.total - w.listed) 0) → Wrote w ss ws fs ds ws' fs' ds'
-      → DeltasRight s ready from memory (Weighed.Deltas (record { weight = s.weight; subsampling = s.subsampling; frames = w.total }) k) (record { status = ss'; weights = ws'; frames = fs'; deltas = ds' })) (sym x.0.1)
-      (λ hs h. written_right x.1.1 ss' ws' fs' ds' hs h (e ∙ ap₂ Plan.Write x.0.0 x.0.1)))
+  pub write_right : (v : Write) (ss' : List ℕ) (ws' : List Float) (fs' : List ℕ) (ds' : List Float) → plan ≡ Ok (Some v)
+      → ss' ≡ sets ss v.window.listed (replicate (v.window.total - v.window.listed) 0) → Wrote v.window ss ws fs ds ws' fs' ds'
+      → DeltasRight s ready from memory (Ok (record { next = record { weight = s.weight; subsampling = s.subsampling; frames = v.window.total }; count = v.count })) (record { status = ss'; weights = ws'; frames = fs'; deltas = ds' })
+  write_right v ss' ws' fs' ds' e =
+      let x = says [] (Ok (Some v)) e in
+      subst (λ (u : Write). ss' ≡ sets ss u.window.listed (replicate (u.window.total - u.window.listed) 0) → Wrote u.window ss ws fs ds ws' fs' ds'
+      → DeltasRight s ready from memory (Ok (record { next = record { weight = s.weight; subsampling = s.subsampling; frames = u.window.total }; count = u.count })) (record { status = ss'; weights = ws'; frames = fs'; deltas = ds' })) (sym x.0)
+      (λ hs h. written_right x.1.1 ss' ws' fs' ds' hs h (e ∙ ap (λ (u : Write). Ok (Some u)) x.0))

@@ -1,12 +1,12 @@
 -- Runs of numbers and of stores: what is left of one as a loop goes on, and what a list holds after one. Assumes nothing.
-use mathlib.Core.Path.{◌≡◌, refl, sym, ap, ◌∙◌}
+use mathlib.Core.Path.{◌≡◌, refl, ap, ◌∙◌}
 use Prim.Native.Nat.{ℕ, zero, suc, ◌+◌, ◌-◌, ◌≤◌, ◌<◌}
 use native.Mathlib.Nat.{add-zero, zero-add, sub-zero, zero-sub}
 use native.Mathlib.Numerals.{add-one}
 use native.Mathlib.Omega.{arith}
 use mathlib.Core.List.{List, [], ◌∷◌, ◌++◌, map}
-use lib.ListN.{length, get_or, take, drop, set, replicate, length-set}
-use lib.Seq.{sets, get_or-set_same, get_or-set_other, drop-set-lt}
+use lib.ListN.{length, take, drop, set, replicate}
+use lib.Seq.{sets, drop-set-lt}
 use Rattle.lists.specs.Lists.{range}
 
 -- ---- what is left
@@ -22,9 +22,6 @@ module _ {A : Type 0} where
   pub fill_more : (xs : List A) (i to : ℕ) (v : A) → i < to → sets (set xs i v) (i + 1) (replicate (to - (i + 1)) v) ≡ sets xs i (replicate (to - i) v)
   fill_more xs i to v h = let e : to - i ≡ suc (to - (i + 1)) = omega arith in rw (e, add-one)
 
-  pub fill_done : (xs : List A) (i to : ℕ) (v : A) → to ≤ i → sets xs i (replicate (to - i) v) ≡ xs
-  fill_done xs i to v h = let e : to - i ≡ 0 = omega arith in rw e
-
 pub put_more : (xs : List ℕ) (at number times k : ℕ) → k < times
     → sets (set xs (at + k) (number + k)) (at + (k + 1)) (range (number + (k + 1)) (times - (k + 1))) ≡ sets xs (at + k) (range (number + k) (times - k))
 put_more xs at number times k h =
@@ -33,21 +30,9 @@ put_more xs at number times k h =
     let n : number + (k + 1) ≡ suc (number + k) = omega arith in
     rw (e, a, n)
 
-pub put_done : (xs : List ℕ) (at number times k : ℕ) → times ≤ k → sets xs (at + k) (range (number + k) (times - k)) ≡ xs
-put_done xs at number times k h = let e : times - k ≡ 0 = omega arith in rw e
-
 -- ---- what a run of numbers holds
 
 module _ {A : Type 0} (f : ℕ → A) where
-  pub at_range : (a n i : ℕ) (d : A) → i < n → get_or (map f (range a n)) i d ≡ f (a + i)
-  at_range a zero i d h = absurd (omega arith)
-  at_range a (suc n) zero d h = ap f (sym (add-zero a))
-  at_range a (suc n) (suc i) d h = let e : suc a + i ≡ a + suc i = omega arith in at_range (suc a) n i d (omega arith) ∙ ap f e
-
-  pub length_range : (a n : ℕ) → length (map f (range a n)) ≡ n
-  length_range a zero = refl
-  length_range a (suc n) = ap suc (length_range (suc a) n)
-
   -- one number more at the end
   pub range_last : (a n : ℕ) → map f (range a (suc n)) ≡ map f (range a n) ++ (f (a + n) ∷ [])
   range_last a zero = rw add-zero
@@ -80,21 +65,6 @@ module _ {A : Type 0} (f : ℕ → A) where
 -- ---- what a list holds after a run of stores
 
 module _ {A : Type 0} where
-  pub before_sets : (l : List A) (i : ℕ) (vs : List A) (k : ℕ) (d : A) → k < i → get_or (sets l i vs) k d ≡ get_or l k d
-  before_sets l i [] k d h = refl
-  before_sets l i (v ∷ vs) k d h = before_sets (set l i v) (suc i) vs k d (omega arith) ∙ get_or-set_other l i k v d (omega arith)
-
-  pub in_sets : (l : List A) (i : ℕ) (vs : List A) (k : ℕ) (d : A) → k < length vs → i + length vs ≤ length l → get_or (sets l i vs) (i + k) d ≡ get_or vs k d
-  in_sets l i [] k d h g = absurd (omega arith)
-  in_sets l i (v ∷ vs) zero d h g = rw add-zero (before_sets (set l i v) (suc i) vs i d (omega arith) ∙ get_or-set_same l i v d (omega arith))
-  in_sets l i (v ∷ vs) (suc k) d h g =
-      let e : i + suc k ≡ suc i + k = omega arith in
-      rw e (in_sets (set l i v) (suc i) vs k d (omega arith) (omega (arith, length-set l i v)))
-
-  pub after_sets : (l : List A) (i : ℕ) (vs : List A) (k : ℕ) (d : A) → i + length vs ≤ k → get_or (sets l i vs) k d ≡ get_or l k d
-  after_sets l i [] k d h = refl
-  after_sets l i (v ∷ vs) k d h = after_sets (set l i v) (suc i) vs k d (omega arith) ∙ get_or-set_other l i k v d (omega arith)
-
   pub drop_sets : (n : ℕ) (l : List A) (i : ℕ) (vs : List A) → i + length vs ≤ n → drop n (sets l i vs) ≡ drop n l
   drop_sets n l i [] h = refl
   drop_sets n l i (v ∷ vs) h = drop_sets n (set l i v) (suc i) vs (omega arith) ∙ drop-set-lt n l i v (omega arith)

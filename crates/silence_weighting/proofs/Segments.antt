@@ -16,7 +16,8 @@ use Rattle.lists.specs.Tests.{or_neither}
 use Rattle.model.specs.Reads.{Segment}
 use Rattle.model.specs.Silence.{bad_segment, bad_segments, is_silence, trailing}
 use Rattle.silence_weighting.specs.State.{segment_at, segment_count, segments_of}
-use Rattle.silence_weighting.proofs.Runs.{range_next, range_done, length_range, at_range, range_last}
+use Rattle.lists.specs.Parts.{range_at, range_many}
+use Rattle.silence_weighting.proofs.Runs.{range_next, range_done, range_last}
 
 abbrev pub segments_from : (phones : List ℤ) → (starts ends : List ℕ) → ℕ → List Segment
 segments_from ps ss es i = map (segment_at ps ss es) (range i (segment_count ps ss es - i))
@@ -34,7 +35,7 @@ module _ (ps : List ℤ) (ss es : List ℕ) where
 
   segments_count : length (segments_of ps ss es) ≡ segment_count ps ss es
   unfolding segments_of
-  segments_count = length_range (segment_at ps ss es) 0 (segment_count ps ss es)
+  segments_count = range_many (segment_at ps ss es) 0 (segment_count ps ss es)
 
   -- ---- 10
 
@@ -49,9 +50,9 @@ module _ (ps : List ℤ) (ss es : List ℕ) where
   pub bad_here : (i : ℕ) → i < segment_count ps ss es → bad_segment (segment_at ps ss es i) ≡ true → any bad_segment (segments_from ps ss es i) ≡ true
   bad_here i h e = rw (one_left i h, e)
 
-  pub good_here : (i : ℕ) → i < segment_count ps ss es → bad_segment (segment_at ps ss es i) ≡ false
+  pub good_here : (i : ℕ) → i < segment_count ps ss es → get_or ss i 0 ≤ get_or es i 0 → get_or es i 0 ≤ 65_536
       → any bad_segment (segments_from ps ss es i) ≡ any bad_segment (segments_from ps ss es (i + 1))
-  good_here i h e = rw (one_left i h, e)
+  good_here i h p q = rw (one_left i h, le-ltb (get_or es i 0) (get_or ss i 0) p, le-ltb 65_536 (get_or es i 0) q)
 
   pub good_all : (i : ℕ) → segment_count ps ss es ≤ i → any bad_segment (segments_from ps ss es i) ≡ false
   good_all i h = rw (none_left i h)
@@ -68,7 +69,7 @@ module _ (ps : List ℤ) (ss es : List ℕ) where
   good_at e j h =
       let d = segment_at ps ss es j in
       let xs = map (segment_at ps ss es) (range 0 (segment_count ps ss es)) in
-      let q : get_or xs j d ≡ d = at_range (segment_at ps ss es) 0 (segment_count ps ss es) j d h ∙ ap (segment_at ps ss es) (zero-add j) in
+      let q : get_or xs j d ≡ d = range_at (segment_at ps ss es) 0 (segment_count ps ss es) j d h ∙ ap (segment_at ps ss es) (zero-add j) in
       let b : bad_segment d ≡ false = ap bad_segment (sym q) ∙ any_no bad_segment xs (good_each e).1 (get_or xs j d) (at_member xs j d (omega (arith, segments_count))) in
       let (x, y) = or_neither (ltb (get_or es j 0) (get_or ss j 0)) (ltb 65_536 (get_or es j 0)) b in
       (ltb-false (get_or es j 0) (get_or ss j 0) x, ltb-false 65_536 (get_or es j 0) y)

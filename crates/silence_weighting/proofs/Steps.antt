@@ -1,9 +1,9 @@
--- The window, frame by frame: a step is the definition's, and what is left is the next frame's and what is left behind it. Assumes nothing.
+-- The window, frame by frame: what is left is the next frame's and what is left behind it. Assumes nothing.
 use mathlib.Core.Path.{◌≡◌, refl, sym, ap, ◌∙◌, subst}
-use Prim.Native.Nat.{ℕ, suc, ◌+◌, ◌-◌, ◌*◌, ◌≤◌, ◌<◌, max}
+use Prim.Native.Nat.{ℕ, suc, ◌+◌, ◌-◌, ◌*◌, ◌≤◌, ◌<◌}
 use native.Mathlib.Numerals.{add-one}
 use native.Mathlib.Omega.{arith}
-use mathlib.Core.Bool.{Bool, true, false, not, ◌||◌, cond}
+use mathlib.Core.Bool.{Bool, true, false, ◌||◌, cond}
 use mathlib.Core.List.{List, [], ◌∷◌, ◌++◌, map}
 use lib.Dec.{eqb}
 use lib.ListN.{length, get_or, length-append}
@@ -12,44 +12,11 @@ use borrow.Author.Tests.{eqb-true, eqb-false, eq-eqb, ne_eqb}
 use Rattle.lists.specs.Lists.{range}
 use Rattle.lists.specs.Tests.{case, either}
 use Rattle.model.specs.Basics.{◌⊖◌, 0f}
-use Rattle.model.specs.Silence.{FrameInfo}
-use Rattle.silence_weighting.specs.declared.SilenceWeighting.{SilenceWeighting}
-use Rattle.silence_weighting.specs.declared.Frame.{Frame}
 use Rattle.silence_weighting.specs.declared.Window.{Window}
 use Rattle.silence_weighting.specs.declared.Step.{Step}
-use Rattle.silence_weighting.specs.Parts.{info_in, grown_at, weight_of, weights_along, frames_from, weights_left, deltas_left, step_at, weight_before, window_of}
-use Rattle.silence_weighting.proofs.Runs.{range_next, range_done, length_range}
-
--- ---- the code's window and step
-
-abbrev window_with : SilenceWeighting → (first begin : ℕ) → (previous : Float) → (all-unknown : Bool) → (total : ℕ) → Window
-window_with s from b p u t = record { silence = s.weight; previous = p; unknown = u; subsampling = s.subsampling; first = from; begin = b; listed = s.frames; total = t }
-
-pub window_is : (s : SilenceWeighting) (n from : ℕ) (ss : List ℕ) (ws : List Float) (b : ℕ) (p : Float) (i : Frame) (t : ℕ)
-    → b ≡ s.frames - 100 → p ≡ weight_before s.weight ws b → info_in i ≡ grown_at s.frames ss ws b → t ≡ max s.frames n
-    → ◌≡◌ {A = Window} (record { silence = s.weight; previous = p; unknown = not i.known; subsampling = s.subsampling; first = from; begin = b; listed = s.frames; total = t }) (window_of s n from ss ws)
-unfolding window_of
-window_is s n from ss ws b p i t hb hp hi ht =
-    ap (window_with s from b p (not i.known)) ht
-    ∙ ap (λ (j : FrameInfo). window_with s from b p (not j.known) (max s.frames n)) hi
-    ∙ ap (λ (q : Float). window_with s from b q (not (grown_at s.frames ss ws b).known) (max s.frames n)) hp
-    ∙ ap (λ (c : ℕ). window_with s from c (weight_before s.weight ws c) (not (grown_at s.frames ss ws c).known) (max s.frames n)) hb
-
--- a step of a frame i that gets the weight v
-abbrev step_with : Window → ℕ → FrameInfo → Float → Step
-step_with w f i v = record { weight = v; delta = v ⊖ i.weight; times = cond (ne (v ⊖ i.weight) 0f || eqb (suc f) w.total) w.subsampling 0 }
-
-pub step_is : (w : Window) (ss : List ℕ) (ws : List Float) (p : Float) (f : ℕ) (i : Frame) (v : Float) (t : ℕ)
-    → info_in i ≡ grown_at w.listed ss ws f → v ≡ weight_of w.silence w.unknown p (info_in i)
-    → t ≡ cond (ne (v ⊖ i.weight) 0f || eqb (suc f) w.total) w.subsampling 0
-    → ◌≡◌ {A = Step} (record { weight = v; delta = v ⊖ i.weight; times = t }) (step_at w ss ws p f)
-unfolding step_at
-step_is w ss ws p f i v t e h k =
-    ap (λ (n : ℕ). record { weight = v; delta = v ⊖ i.weight; times = n }) k
-    ∙ ap (step_with w f (info_in i)) h
-    ∙ ap (λ (j : FrameInfo). step_with w f j (weight_of w.silence w.unknown p j)) e
-
--- ---- what is left of the window
+use Rattle.silence_weighting.specs.Parts.{grown_at, weight_of, weights_along, frames_from, weights_left, deltas_left, step_at}
+use Rattle.lists.specs.Parts.{range_many}
+use Rattle.silence_weighting.proofs.Runs.{range_next, range_done}
 
 -- what a step tells: its difference for each input frame
 abbrev pub told_at : Window → ℕ → Step → List (ℕ × Float)
@@ -84,7 +51,7 @@ module _ (w : Window) (ss : List ℕ) (ws : List Float) (p : Float) (f : ℕ) wh
       let i = grown_at w.listed ss ws f in
       let v = weight_of w.silence w.unknown p i in
       let d = v ⊖ i.weight in
-      rw (add-one, frames_next h, length_range (grown_at w.listed ss ws) (suc f) (w.total - suc f), last_is f w.total h)
+      rw (add-one, frames_next h, range_many (grown_at w.listed ss ws) (suc f) (w.total - suc f), last_is f w.total h)
       (ap (λ (r : List (ℕ × Float)). r ++ deltas_left w ss ws v (suc f)) (told_cond w f v d (ne d 0f || eqb (suc f) w.total)))
 
   pub weights_done : w.total ≤ f → weights_left w ss ws p f ≡ []
@@ -105,7 +72,7 @@ module _ (w : Window) (ss : List ℕ) (ws : List Float) (p : Float) (f : ℕ) wh
   count_step : f < w.total → length (deltas_left w ss ws p f) ≡ (step_at w ss ws p f).times + length (deltas_left w ss ws (step_at w ss ws p f).weight (f + 1))
   count_step h =
       let t = step_at w ss ws p f in
-      let l = length_range {A = ℕ × Float} (λ k. (w.first + f * w.subsampling + k, t.delta)) 0 t.times in
+      let l = range_many {A = ℕ × Float} (λ k. (w.first + f * w.subsampling + k, t.delta)) 0 t.times in
       omega (arith, ap length (deltas_next h) ∙ length-append (told_at w f t) (deltas_left w ss ws t.weight (f + 1)))
 
   pub count_next : (t : Step) → t ≡ step_at w ss ws p f → f < w.total → length (deltas_left w ss ws p f) ≡ t.times + length (deltas_left w ss ws t.weight (f + 1))

@@ -21,7 +21,9 @@ use Rattle.silence_weighting.specs.declared.SilenceWeighting.{SilenceWeighting}
 use Rattle.silence_weighting.specs.State.{frame_at, info_of, state_of, segment_count}
 use Rattle.silence_weighting.specs.Parts.{status_of, told_to, grown_at}
 use Rattle.silence_weighting.proofs.Segments.{segments_from, one_left, none_left}
-use Rattle.silence_weighting.proofs.Runs.{at_range, length_range, range_same, before_sets, in_sets, after_sets, drop_sets}
+use Rattle.lists.specs.Parts.{range_at, range_many}
+use Rattle.lists.specs.Sets.{sets_off, sets_on}
+use Rattle.silence_weighting.proofs.Runs.{range_same, drop_sets}
 
 ap₃ : {A B C D : Type 0} (f : A → B → C → D) {a a' : A} {b b' : B} {c c' : C} → a ≡ a' → b ≡ b' → c ≡ c' → f a b c ≡ f a' b' c'
 ap₃ f p q r = λ i. f (p i) (q i) (r i)
@@ -42,16 +44,16 @@ module _ (m n : ℕ) (ss : List ℕ) (ws : List Float) where
   grown-length =
       let i : List FrameInfo = map (frame_at ss ws) (range 0 m) in
       length-append i (replicate (n - length i) unknown)
-      ∙ omega (arith, length_range (frame_at ss ws) 0 m, length-replicate (n - length i) unknown)
+      ∙ omega (arith, range_many (frame_at ss ws) 0 m, length-replicate (n - length i) unknown)
 
   grown_at_lem : (k : ℕ) → k < max m n → get_or (grown n (info_of m ss ws)) k unknown ≡ grown_at m ss ws k
   unfolding info_of
   grown_at_lem k h =
       let i : List FrameInfo = map (frame_at ss ws) (range 0 m) in
       let rest : List FrameInfo = replicate (n - length i) unknown in
-      let l = length_range (frame_at ss ws) 0 m in
+      let l = range_many (frame_at ss ws) 0 m in
       case (lt_or_le k m)
-      (λ u. get_or-append i rest unknown k (omega arith) ∙ at_range (frame_at ss ws) 0 m k unknown u ∙ rw zero-add (sym (in_list m ss ws k u)))
+      (λ u. get_or-append i rest unknown k (omega arith) ∙ range_at (frame_at ss ws) 0 m k unknown u ∙ rw zero-add (sym (in_list m ss ws k u)))
       (λ u.
       let e : k ≡ length i + (k - m) = omega arith in
       ap (λ (j : ℕ). get_or (i ++ rest) j unknown) e ∙ get_or-append-add i rest (k - m) unknown ∙ get_or-replicate (n - length i) (k - m) unknown unknown (omega arith)
@@ -59,8 +61,8 @@ module _ (m n : ℕ) (ss : List ℕ) (ws : List Float) where
 
   pub grown_is : grown n (info_of m ss ws) ≡ map (grown_at m ss ws) (range 0 (max m n))
   grown_is =
-      ext_get_or unknown (grown n (info_of m ss ws)) (map (grown_at m ss ws) (range 0 (max m n))) (grown-length ∙ sym (length_range (grown_at m ss ws) 0 (max m n)))
-      (λ k h. let u : k < max m n = omega (arith, grown-length) in grown_at_lem k u ∙ sym (at_range (grown_at m ss ws) 0 (max m n) k unknown u ∙ ap (grown_at m ss ws) (zero-add k)))
+      ext_get_or unknown (grown n (info_of m ss ws)) (map (grown_at m ss ws) (range 0 (max m n))) (grown-length ∙ sym (range_many (grown_at m ss ws) 0 (max m n)))
+      (λ k h. let u : k < max m n = omega (arith, grown-length) in grown_at_lem k u ∙ sym (range_at (grown_at m ss ws) 0 (max m n) k unknown u ∙ ap (grown_at m ss ws) (zero-add k)))
 
 -- ---- stores of a status
 
@@ -74,14 +76,14 @@ stored_in xs a b v d k h l u =
     let e : k ≡ a + (k - a) = omega arith in
     let n = length-replicate (b - a) v in
     ap (λ (j : ℕ). get_or (sets xs a (replicate (b - a) v)) j d) e
-    ∙ in_sets xs a (replicate (b - a) v) (k - a) d (omega arith) (omega arith)
+    ∙ sets_on (replicate (b - a) v) xs a (k - a) d (omega arith) (omega arith)
     ∙ get_or-replicate (b - a) (k - a) v d (omega arith)
 
 pub stored_out : {A : Type 0} (xs : List A) (a b : ℕ) (v d : A) (k : ℕ) → (k < a) ⊎ (b ≤ k) → get_or (sets xs a (replicate (b - a) v)) k d ≡ get_or xs k d
-stored_out xs a b v d k (inl u) = before_sets xs a (replicate (b - a) v) k d u
+stored_out xs a b v d k (inl u) = sets_off (replicate (b - a) v) xs a k d (inl u)
 stored_out xs a b v d k (inr u) =
     let n = length-replicate (b - a) v in
-    case (lt_or_le k a) (λ l. before_sets xs a (replicate (b - a) v) k d l) (λ l. after_sets xs a (replicate (b - a) v) k d (omega arith))
+    case (lt_or_le k a) (λ l. sets_off (replicate (b - a) v) xs a k d (inl l)) (λ l. sets_off (replicate (b - a) v) xs a k d (inr (omega arith)))
 
 pub drop_stored : {A : Type 0} (xs : List A) (a b : ℕ) (v : A) (t : ℕ) → b ≤ t → drop t (sets xs a (replicate (b - a) v)) ≡ drop t xs
 drop_stored xs a b v t h = case (lt_or_le a b)
@@ -173,15 +175,15 @@ module _ (ps : List ℤ) (s : Segment) (n : ℕ) (ss : List ℕ) (ws : List Floa
   one_told m =
       let is = map (frame_at ss ws) (range 0 m) in
       let ss' = sets ss s.start (replicate (b - s.start) v) in
-      let l = length_range (frame_at ss ws) 0 m in
-      let l' = length_range (frame_at ss' ws) 0 m in
+      let l = range_many (frame_at ss ws) 0 m in
+      let l' = range_many (frame_at ss' ws) 0 m in
       ext_get_or unknown (map (frame_at ss' ws) (range 0 m)) (tell_from ps (s ∷ []) n 0 is) (omega (arith, tell-length ps (s ∷ []) n 0 is))
       (λ k h.
       let u : k < m = omega arith in
-      let x : get_or is k unknown ≡ frame_at ss ws k = at_range (frame_at ss ws) 0 m k unknown u ∙ ap (frame_at ss ws) (zero-add k) in
+      let x : get_or is k unknown ≡ frame_at ss ws k = range_at (frame_at ss ws) 0 m k unknown u ∙ ap (frame_at ss ws) (zero-add k) in
       let y : get_or (tell_from ps (s ∷ []) n 0 is) k unknown ≡ cond (ltb k n) (told ps (s ∷ []) k (frame_at ss ws k)) (frame_at ss ws k)
       = tell_at ps (s ∷ []) n 0 is k (omega arith) ∙ rw (zero-add, x) in
-      at_range (frame_at ss' ws) 0 m k unknown u ∙ ap (frame_at ss' ws) (zero-add k) ∙ one_at k ∙ sym y)
+      range_at (frame_at ss' ws) 0 m k unknown u ∙ ap (frame_at ss' ws) (zero-add k) ∙ one_at k ∙ sym y)
 
 told_stored : (ps : List ℤ) (rest : List Segment) (n m : ℕ) (ss : List ℕ) (ws : List Float) → n ≤ length ss
     → info_of m (told_to ps rest n ss) ws ≡ tell_from ps rest n 0 (info_of m ss ws)

@@ -19,7 +19,9 @@ use Rattle.silence_weighting.specs.declared.SilenceWeighting.{SilenceWeighting}
 use Rattle.silence_weighting.specs.State.{frame_at, info_of, state_of}
 use Rattle.silence_weighting.specs.Answers.{deltas_in}
 use Rattle.silence_weighting.specs.Parts.{grown_at, weight_of, weights_along, frames_from, weights_on, deltas_on, weight_before, window_of}
-use Rattle.silence_weighting.proofs.Runs.{at_range, length_range, range-append, range-take, range-drop, range_same, before_sets, in_sets}
+use Rattle.lists.specs.Parts.{range_at, range_many}
+use Rattle.lists.specs.Sets.{sets_off, sets_on}
+use Rattle.silence_weighting.proofs.Runs.{range-append, range-take, range-drop, range_same}
 use Rattle.silence_weighting.proofs.Told.{in_list, past_list, grown_is, stored_in, stored_out}
 use Rattle.silence_weighting.proofs.Writing.{firsts, seconds}
 
@@ -88,9 +90,9 @@ module _ (m t b : ℕ) (ss : List ℕ) (ws vs : List Float) (hm : m ≤ t) (hb :
       let e : b + (t - b) ≡ t = omega arith in
       let front : map f (range 0 b) ≡ map g (range 0 b) = range_same f g 0 b (λ k l u.
       let h : k < m = omega arith in
-      ap₂ (λ (x : ℕ) (v : Float). record { known = not (eqb x 0); silence = eqb x 2; weight = v }) (stored_out ss m t 0 0 k (inl h)) (before_sets ws b vs k nan (omega arith)) ∙ sym (in_list m ss ws k h)) in
+      ap₂ (λ (x : ℕ) (v : Float). record { known = not (eqb x 0); silence = eqb x 2; weight = v }) (stored_out ss m t 0 0 k (inl h)) (sets_off vs ws b k nan (inl (omega arith))) ∙ sym (in_list m ss ws k h)) in
       let back : map f (range b (t - b)) ≡ reweighed (map g (range b (t - b))) vs = reweighed_is f g b (t - b) vs hv (λ i u.
-      let v : get_or ws' (b + i) nan ≡ get_or vs i nan = in_sets ws b vs i nan (omega arith) (omega arith) in
+      let v : get_or ws' (b + i) nan ≡ get_or vs i nan = sets_on vs ws b i nan (omega arith) (omega arith) in
       case (lt_or_le (b + i) m)
       (λ h. ap₂ (λ (x : ℕ) (y : Float). record { known = not (eqb x 0); silence = eqb x 2; weight = y }) (stored_out ss m t 0 0 (b + i) (inl h)) v
       ∙ ap (λ (j : FrameInfo). reweigh j (get_or vs i nan)) (sym (in_list m ss ws (b + i) h)))
@@ -125,7 +127,7 @@ module _ (s : SilenceWeighting) (n from : ℕ) (ss : List ℕ) (ws : List Float)
       let d : begin ≡ 0 → ⊥ = eqb-false begin 0 e in
       let h : 0 < begin = omega arith in
       let x : get_or grown_list (begin - 1) unknown ≡ frame_at ss ws (begin - 1)
-      = at_range (grown_at s.frames ss ws) 0 total (begin - 1) unknown (omega arith) ∙ ap (grown_at s.frames ss ws) (zero-add (begin - 1)) ∙ in_list s.frames ss ws (begin - 1) (omega arith) in
+      = range_at (grown_at s.frames ss ws) 0 total (begin - 1) unknown (omega arith) ∙ ap (grown_at s.frames ss ws) (zero-add (begin - 1)) ∙ in_list s.frames ss ws (begin - 1) (omega arith) in
       ap (λ (i : FrameInfo). cond (eqb begin 0) s.weight i.weight) x)
 
   window_frames : drop begin grown_list ≡ frames_from (window_of s n from ss ws) ss ws begin
@@ -139,7 +141,7 @@ module _ (s : SilenceWeighting) (n from : ℕ) (ss : List ℕ) (ws : List Float)
 
   pub weights-length : length (weights_on (window_of s n from ss ws) ss ws) ≡ total - begin
   unfolding window_of weights_on
-  weights-length = along-length s.weight _ _ (frames_from (window_of s n from ss ws) ss ws begin) ∙ length_range (grown_at s.frames ss ws) begin (total - begin)
+  weights-length = along-length s.weight _ _ (frames_from (window_of s n from ss ws) ss ws begin) ∙ range_many (grown_at s.frames ss ws) begin (total - begin)
 
   window_deltas_are : deltas_from s.subsampling from begin (drop begin grown_list) (weights_on (window_of s n from ss ws) ss ws) ≡ deltas_on (window_of s n from ss ws) ss ws
   unfolding window_of weights_on deltas_on
@@ -148,7 +150,7 @@ module _ (s : SilenceWeighting) (n from : ℕ) (ss : List ℕ) (ws : List Float)
   module _ (ps : List ℤ) where
     info-length : length (state_of ps s ss ws).info ≡ s.frames
     unfolding state_of info_of
-    info-length = length_range (frame_at ss ws) 0 s.frames
+    info-length = range_many (frame_at ss ws) 0 s.frames
 
     deltas_with_lem : deltas_of (state_of ps s ss ws) n from ≡ deltas_with (state_of ps s ss ws) from grown_list begin
     unfolding deltas_of state_of
@@ -191,11 +193,11 @@ read_back ds fs xs hf hx =
     let fs' = sets fs 0 (firsts ds) in
     let xs' = sets xs 0 (seconds ds) in
     let h : ℕ → ℕ × Float = λ k. (get_or fs' k 0, get_or xs' k nan) in
-    let l = length_range h 0 (length ds) in
+    let l = range_many h 0 (length ds) in
     let lf = length-map ds (λ (d : ℕ × Float). d.0) in
     let lx = length-map ds (λ (d : ℕ × Float). d.1) in
     ext_get_or (0, nan) (map h (range 0 (length ds))) ds l (λ k u.
     let v : k < length ds = omega arith in
-    let x : get_or fs' k 0 ≡ get_or (firsts ds) k 0 = subst (λ (j : ℕ). get_or fs' j 0 ≡ get_or (firsts ds) k 0) (zero-add k) (in_sets fs 0 (firsts ds) k 0 (omega arith) (omega arith)) in
-    let y : get_or xs' k nan ≡ get_or (seconds ds) k nan = subst (λ (j : ℕ). get_or xs' j nan ≡ get_or (seconds ds) k nan) (zero-add k) (in_sets xs 0 (seconds ds) k nan (omega arith) (omega arith)) in
-    at_range h 0 (length ds) k (0, nan) v ∙ ap h (zero-add k) ∙ ap₂ (λ (a : ℕ) (b : Float). (a, b)) x y ∙ pair_at_lem ds k)
+    let x : get_or fs' k 0 ≡ get_or (firsts ds) k 0 = subst (λ (j : ℕ). get_or fs' j 0 ≡ get_or (firsts ds) k 0) (zero-add k) (sets_on (firsts ds) fs 0 k 0 (omega arith) (omega arith)) in
+    let y : get_or xs' k nan ≡ get_or (seconds ds) k nan = subst (λ (j : ℕ). get_or xs' j nan ≡ get_or (seconds ds) k nan) (zero-add k) (sets_on (seconds ds) xs 0 k nan (omega arith) (omega arith)) in
+    range_at h 0 (length ds) k (0, nan) v ∙ ap h (zero-add k) ∙ ap₂ (λ (a : ℕ) (b : Float). (a, b)) x y ∙ pair_at_lem ds k)

@@ -1,8 +1,10 @@
 -- The parts of the calls: what is stored for a segment, and the frames of the window one by one. Defined from the definition's functions.
-use Rattle.std.specs.Prelude.{ℕ, suc, ◌-◌, ◌^◌, ◌≤◌, min, max, ◌≡◌, Bool, true, false, not, ◌||◌, cond, List, [], ◌∷◌, map, ℤ, leb, ltb, eqb, length, get_or, replicate, Float}
+use Rattle.std.specs.Prelude.{⊤, ℕ, suc, ◌-◌, ◌^◌, ◌≤◌, min, max, ◌≡◌, Bool, not, ◌||◌, cond, List, [], ◌∷◌, map, Option, Some, None, Result, Ok, Err, ℤ, leb, ltb, eqb, length, get_or, replicate, Float}
 use Rattle.std.proofs.lemmas.List.Edits.{sets}
 use Rattle.std.specs.Float.{nan}
 use Rattle.std.specs.Float.Ieee.{ne}
+use Rattle.refusals.specs.declared.Reason.{Reason}
+use Rattle.refusals.specs.declared.Reason.TheVariants.{BadSilenceSetting, TooManyFrames, TooShort}
 use Rattle.lists.specs.Lists.{range}
 use Rattle.model.specs.Basics.{◌⊖◌, 0f, 1f}
 use Rattle.model.specs.Reads.{Segment}
@@ -11,8 +13,12 @@ use Rattle.silence_weighting.specs.declared.SilenceWeighting.{SilenceWeighting}
 use Rattle.silence_weighting.specs.declared.Frame.{Frame}
 use Rattle.silence_weighting.specs.declared.Window.{Window}
 use Rattle.silence_weighting.specs.declared.Step.{Step}
-use Rattle.silence_weighting.specs.declared.Plan.{Plan}
+use Rattle.silence_weighting.specs.declared.Write.{Write}
 use Rattle.silence_weighting.specs.State.{frame_at, places}
+
+-- a refusal where a test is true
+abbrev pub unless : Bool → Reason → Result ⊤ Reason
+unless b r = cond b (Err r) (Ok tt)
 
 -- ---- the traceback
 
@@ -105,20 +111,16 @@ window_of s n from ss ws =
       total = max s.frames n;
     }
 
-abbrev pub pick : Bool → Plan → Plan → Plan
-pick true a b = a
-pick false a b = b
-
 -- what `get_delta_weights` is to do: refuse, or nothing, or write a window's differences
-unfoldable pub plan_of : SilenceWeighting → (ready first room : ℕ) → (status : List ℕ) → (weights : List Float) → Plan
+unfoldable pub plan_of : SilenceWeighting → (ready first room : ℕ) → (status : List ℕ) → (weights : List Float) → Result (Option Write) Reason
 plan_of s ready from room ss ws =
     let n = ceil_div (ready - from) s.subsampling in
     let w = window_of s n from ss ws in
-    pick (weighting_wrong s.weight s.subsampling) (Plan.Refused 7)
-    (pick (too_many (places ss ws) s.frames) (Plan.Refused 10)
-    (pick (ltb (2 ^ 32) ready) (Plan.Refused 10)
-    (pick (ltb (2 ^ 32) from) (Plan.Refused 10)
-    (pick (leb ready from) Plan.Nothing
-    (pick (too_many (places ss ws) n) (Plan.Refused 10)
-    (pick (ltb room (length (deltas_on w ss ws))) (Plan.Refused 11)
-    (Plan.Write w (length (deltas_on w ss ws)))))))))
+    cond (weighting_wrong s.weight s.subsampling) (Err BadSilenceSetting)
+    (cond (too_many (places ss ws) s.frames) (Err TooManyFrames)
+    (cond (ltb (2 ^ 32) ready) (Err TooManyFrames)
+    (cond (ltb (2 ^ 32) from) (Err TooManyFrames)
+    (cond (leb ready from) (Ok None)
+    (cond (too_many (places ss ws) n) (Err TooManyFrames)
+    (cond (ltb room (length (deltas_on w ss ws))) (Err TooShort)
+    (Ok (Some (record { window = w; count = length (deltas_on w ss ws) })))))))))

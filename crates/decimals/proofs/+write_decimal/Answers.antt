@@ -4,27 +4,15 @@ use Prim.Native.Nat.{◌+◌, ◌/◌, ◌%◌, ◌^◌, ◌<◌, ◌≤◌}
 use native.Mathlib.Omega.{arith}
 use mathlib.Core.List.{[], ◌∷◌}
 use Rattle.decimals.specs.Decimal.{decimal}
-use Rattle.decimals.specs.RoundTrip.{decimal_one, decimal_more, length_one, length_more}
+use Rattle.decimals.specs.RoundTrip.{decimal_one, decimal_more, length_one}
 use Rattle.decimals.specs.Stored.{stored_more}
 use Rattle.decimals.proofs.+write_decimal.Goals as goal
-
-pub bounds-out-at : goal.bounds-out-at
-bounds-out-at t c = omega (arith, length_one c.args.number (omega arith))
 
 pub returns-then-number-lt10 : goal.returns-then-number-lt10
 returns-then-number-lt10 t c =
     let n = c.args.number in
     let h : n < 10 = omega arith in
     record { behind = omega (arith, length_one n h); written = rw (decimal_one n h) }
-
-pub write_decimal-last-requires : goal.write_decimal-last-requires
-write_decimal-last-requires t c = (omega arith, omega (arith, length_more c.args.number (omega arith) (omega arith)))
-
-pub bounds-out-last : goal.bounds-out-last
-bounds-out-last t c = omega (arith, length_more c.args.number (omega arith) (omega arith))
-
-pub overflow_add-result-2 : goal.overflow_add-result-2
-overflow_add-result-2 t c = omega (arith, length_more c.args.number (omega arith) (omega arith))
 
 pub returns : goal.returns
 returns t c =

@@ -2,6 +2,8 @@
 use mathlib.Core.Path.{◌≡◌, refl, sym, ap, ◌∙◌}
 use native.Mathlib.Omega.{arith}
 use lib.ListN.{length-take}
+use Rattle.std.proofs.lemmas.Bool.Decides.{Decides-eqb}
+use Rattle.std.proofs.lemmas.Slice.Eq.{slice_eq-Decides}
 use Rattle.lists.specs.Tests.{never}
 use Rattle.decimals.specs.declared.Numbers.{Numbers}
 use Rattle.decimals.specs.Numbers.{numbers_in, none}
@@ -16,21 +18,21 @@ write_decimal-end-requires c = omega (arith, decimal-length c.numbers_in-number.
 pub slice_bounds-digits-end : goal.slice_bounds-digits-end
 slice_bounds-digits-end c = omega (arith, decimal-length c.numbers_in-number.result.third)
 
-pub slice_bounds-written-end : goal.slice_bounds-written-end
-slice_bounds-written-end c = omega (arith, decimal-length c.numbers_in-number.result.third, length-take c.write_decimal-end.result c.write_decimal-end.new.out)
+pub slice_bounds-eq-end : goal.slice_bounds-eq-end
+slice_bounds-eq-end c = omega (arith, decimal-length c.numbers_in-number.result.third, length-take c.write_decimal-end.result c.write_decimal-end.new.out)
 
-pub returns-then-same : goal.returns-then-same
-returns-then-same c =
+pub returns-then-eq : goal.returns-then-eq
+returns-then-eq c =
     let n = c.numbers_in-number.result.third in
     let written = stored_front (decimal n) c.write_decimal-end.ensures (omega (arith, decimal-length n)) in
-    (omega arith, sym written ∙ c.same.ensures.0 c.if-same.true)
+    let same = slice_eq-Decides Decides-eqb _ _ _ c.eq.ensures in
+    (omega arith, sym written ∙ same.0 c.if-eq.true)
 
-pub returns : goal.returns
-returns c n f d =
-    let s = c.same in
+pub returns-else-eq : goal.returns-else-eq
+returns-else-eq c n f d =
     let found = c.numbers_in-number in
-    let bs = c.args.bytes.now in
     let e : found.result.third ≡ n = ap (λ (x : Numbers). x.third) (found.ensures ∙ ap numbers_in (sym d) ∙ decimal_read n none f refl) in
     let m = found.result.third in
     let written = stored_front (decimal m) c.write_decimal-end.ensures (omega (arith, decimal-length m)) in
-    never (sym c.if-same.false ∙ s.ensures.1 (written ∙ ap decimal e ∙ d))
+    let same = slice_eq-Decides Decides-eqb _ _ _ c.eq.ensures in
+    never (sym c.if-eq.false ∙ same.1 (written ∙ ap decimal e ∙ d))

@@ -1,14 +1,10 @@
 -- `refusal_lines::compose` meets its contract: the parts behind each other are the line, which fits 96 bytes.
-use mathlib.Core.Path.{refl, sym, ◌∙◌}
+use mathlib.Core.Path.{sym, ◌∙◌}
 use native.Mathlib.Omega.{arith}
 use Rattle.decimals.specs.Stored.{stored_more}
 use Rattle.refusal_lines.specs.Line.{text, numbered, name_of, place_text, heading, line_of}
 use Rattle.refusal_lines.proofs.Laws.{name_length, numbered-length, place-length}
 use Rattle.refusal_lines.proofs.compose.Goals as goal
-
-pub returns-then-not-may_have : goal.returns-then-not-may_have
-unfolding line_of
-returns-then-not-may_have c = let call = c.may_have in rw (sym call.ensures ∙ c.if-not-may_have.true) (record { behind = refl; written = refl })
 
 pub put_number-named-requires : goal.put_number-named-requires
 unfolding text

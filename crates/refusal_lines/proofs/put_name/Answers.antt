@@ -1,12 +1,14 @@
--- `refusal_lines::put_name` meets its contract: a number past the table has row 0.
-use mathlib.Core.Path.{ap}
-use native.Mathlib.Omega.{arith}
-use lib.ListN.{length}
-use Rattle.refusal_lines.proofs.Table.{unnamed_is}
+-- `refusal_lines::put_name` meets its contract.
+use Rattle.std.proofs.Common.{◌≡◌, List, ◌++◌, ℕ, subst, ◌∙◌}
+use Rattle.decimals.specs.Stored.{Stored, stored_more}
+use Rattle.refusal_lines.specs.Line.{text, bare_name, name_of}
 use Rattle.refusal_lines.proofs.put_name.Goals as goal
 
-pub put_row-requires-2 : goal.put_row-requires-2
-put_row-requires-2 c = let n = c.args.number in omega (arith, ap length (unnamed_is n (omega arith)))
-
 pub returns : goal.returns
-returns c = rw (unnamed_is c.args.number (omega arith)) c.put_row-2.ensures
+unfolding name_of text
+returns c =
+    let name = bare_name c.args.number in
+    let end = c.put-end in
+    let e : c.as_bytes.result.now ≡ name = c.as_bytes.ensures.value ∙ c.bare_name.ensures in
+    let named = subst (λ (part : List ℕ). Stored c.put-start.new.out c.put-start.result part end.result end.new.out) e end.ensures in
+    stored_more (text " " ++ name) (text ";") (stored_more (text " ") name c.put-start.ensures named) c.put.ensures

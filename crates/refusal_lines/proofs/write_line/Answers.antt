@@ -15,9 +15,6 @@ slice_bounds-line-end c = omega (arith, line-length c.args.refusal)
 pub slice_bounds-put-end : goal.slice_bounds-put-end
 slice_bounds-put-end c = omega (arith, line-length c.args.refusal, length-take c.compose-end.result c.compose-end.new.out)
 
-pub put-requires : goal.put-requires
-put-requires c = omega (arith, length-take c.compose-end.result c.compose-end.new.out)
-
 pub returns : goal.returns
 returns c =
     let a = c.args in

@@ -1,5 +1,5 @@
 -- `silence_weighting::count_deltas` meets its contract: what is counted, and what is left, is the whole.
-use Prim.Native.Nat.{◌+◌, ◌*◌, ◌≤◌, ◌-◌}
+use Prim.Native.Nat.{◌+◌, ◌*◌, ◌≤◌}
 use mathlib.Core.Path.{◌≡◌}
 use lib.ListN.{length}
 use Rattle.silence_weighting.specs.Parts.{deltas_left, deltas_on}
@@ -7,6 +7,3 @@ use Rattle.silence_weighting.proofs.count_deltas.Given as goal
 
 abbrev pub invariant-loop-f : goal.invariant-loop-f
 invariant-loop-f l = (l.f ≤ l.w.total) × ((l.count ≤ 16 * l.f) × (l.count + length (deltas_left l.w l.status l.weights l.previous l.f) ≡ length (deltas_on l.w l.status l.weights)))
-
-abbrev pub decreases-loop-f : goal.decreases-loop-f
-decreases-loop-f l = l.w.total - l.f

@@ -9,6 +9,3 @@ use Rattle.silence_weighting.proofs.trailing_frames.Given as goal
 
 abbrev pub invariant-loop-i : goal.invariant-loop-i
 invariant-loop-i l = (l.i ≤ segment_count l.phones l.starts l.ends) × ((l.n ≤ 65536 * (segment_count l.phones l.starts l.ends - l.i)) × (l.n + trailing l.silence_phones (segments_back l.phones l.starts l.ends l.i) ≡ trailing l.silence_phones (reverse (segments_of l.phones l.starts l.ends))))
-
-abbrev pub decreases-loop-i : goal.decreases-loop-i
-decreases-loop-i l = l.i

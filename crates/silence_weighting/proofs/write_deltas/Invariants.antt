@@ -1,10 +1,6 @@
 -- `silence_weighting::write_deltas` meets its contract: before each frame, to write what is left gives what is wanted.
-use Prim.Native.Nat.{◌-◌}
 use Rattle.silence_weighting.proofs.Writing.{Writing}
 use Rattle.silence_weighting.proofs.write_deltas.Given as goal
 
 abbrev pub invariant-loop-f : goal.invariant-loop-f
 invariant-loop-f l = Writing l.w l.status l.initial.weights l.initial.frames l.initial.deltas l.weights l.frames l.deltas l.at l.previous l.f
-
-abbrev pub decreases-loop-f : goal.decreases-loop-f
-decreases-loop-f l = l.w.total - l.f
