@@ -1,5 +1,5 @@
 -- Every arc of a token that a pass takes: how far the loop has got. Assumes nothing.
-use Rattle.std.specs.Prelude.{◌≡◌, refl, ℕ, suc, ◌+◌, ◌-◌, ◌≤◌, ◌<◌, Bool, true, false, List, ◌∷◌, map, pos, get_or}
+use Rattle.std.specs.Prelude.{◌≡◌, refl, ℕ, suc, ◌+◌, ◌-◌, ◌≤◌, ◌<◌, Bool, true, false, List, ◌∷◌, map, pos, get_or, Result, Ok, Err}
 use Rattle.std.proofs.Common.{sym, ◌∙◌}
 use Rattle.std.proofs.Math.Path.{ap, subst}
 use native.Mathlib.Omega.{arith}
@@ -15,11 +15,10 @@ use Rattle.arrivals.specs.declared.Arrival.{Arrival}
 use Rattle.arrivals.specs.declared.Setting.{Setting}
 use Rattle.arcs.specs.declared.Pass.{Pass}
 use Rattle.arcs.specs.declared.Work.{Work}
-use Rattle.arcs.specs.declared.Passed.{Passed}
-use Rattle.arcs.specs.declared.Passed.TheVariants.{Refused, On}
 use Rattle.arcs.specs.Part.{pass_of, takes_label, Part, PartOf, Taken, arc_in, arcs_from, takes_is, arrival_in, arrival_is, SourceIs}
 use Rattle.arcs.specs.Passed.{Ground, At, PassedBy, passed_refused, passed_on}
 use Rattle.arcs.specs.Whole.{WholeGiven, WholeIs}
+use Rattle.refusals.specs.declared.Reason.{Reason}
 
 pub record AllGiven (g : Setting) (m : Lent) (qs eps : List ℕ) (pass : Pass) (p : Part) (x : Work) (source : Stored) : Type 0 where
   pub H : Here
@@ -36,7 +35,7 @@ pub record AllGiven (g : Setting) (m : Lent) (qs eps : List ℕ) (pass : Pass) (
 abbrev pub all_of : {g : Setting} {m : Lent} {qs eps : List ℕ} {pass : Pass} {p : Part} {x : Work} {source : Stored} → AllGiven g m qs eps pass p x source → Outcome ModelWork
 all_of {pass = pass} {p = p} G = arrive_all G.H (pass_of pass p.loglikes) G.t (arcs_from p G.s 0) G.w
 
-abbrev pub AllIs : (g : Setting) → (m m' : Lent) → (qs qs' eps : List ℕ) → Pass → Part → Work → Stored → Passed → Type 0
+abbrev pub AllIs : (g : Setting) → (m m' : Lent) → (qs qs' eps : List ℕ) → Pass → Part → Work → Stored → Result Work Reason → Type 0
 AllIs g m m' qs qs' eps pass p x source r = (G : AllGiven g m qs eps pass p x source) → PassedBy g m' qs' G.done G.t.path (all_of G) r
 
 -- ---- one arc more
@@ -56,18 +55,18 @@ step_arc_by H P t a w b = elim b as (λ z. Outcome ModelWork) [ true ↦ arrive 
 abbrev pub step_of : {g : Setting} {m : Lent} {qs eps : List ℕ} {pass : Pass} {p : Part} {x : Work} {source : Stored} → AllGiven g m qs eps pass p x source → (i : ℕ) → Outcome ModelWork
 step_of {pass = pass} {p = p} G i = let a = arc_in p G.s i in let P = pass_of pass p.loglikes in step_arc_by G.H P G.t a G.w (takes P a)
 
-abbrev pub StepIs : (g : Setting) → (m m' : Lent) → (qs qs' eps : List ℕ) → Pass → Part → Work → Stored → (i : ℕ) → Passed → Type 0
+abbrev pub StepIs : (g : Setting) → (m m' : Lent) → (qs qs' eps : List ℕ) → Pass → Part → Work → Stored → (i : ℕ) → Result Work Reason → Type 0
 StepIs g m m' qs qs' eps pass p x source i r = (G : AllGiven g m qs eps pass p x source) → PassedBy g m' qs' G.done G.t.path (step_of G i) r
 
 module _ {g : Setting} {m : Lent} {qs eps : List ℕ} {pass : Pass} {p : Part} {x : Work} {source : Stored} (G : AllGiven g m qs eps pass p x source) (i : ℕ) (l : i < length p.ilabels) where
-  abbrev PassAt : Lent → List ℕ → Outcome ModelWork → Passed → Type 0
+  abbrev PassAt : Lent → List ℕ → Outcome ModelWork → Result Work Reason → Type 0
   PassAt m' qs' = PassedBy g m' qs' G.done G.t.path
 
   test_is : {b : Bool} → takes_label pass (get_or p.ilabels i (pos 0)) ≡ b → step_of G i ≡ step_arc_by G.H (pass_of pass p.loglikes) G.t (arc_in p G.s i) G.w b
   test_is e = ap (step_arc_by G.H (pass_of pass p.loglikes) G.t (arc_in p G.s i) G.w) (takes_is pass p G.s i ∙ e)
 
-  pub step_skips : takes_label pass (get_or p.ilabels i (pos 0)) ≡ false → PassAt m qs (step_of G i) (On x)
-  step_skips e = subst (λ (o : Outcome ModelWork). PassAt m qs o (On x)) (sym (test_is e)) (passed_on G.at)
+  pub step_skips : takes_label pass (get_or p.ilabels i (pos 0)) ≡ false → PassAt m qs (step_of G i) (Ok x)
+  step_skips e = subst (λ (o : Outcome ModelWork). PassAt m qs o (Ok x)) (sym (test_is e)) (passed_on G.at)
 
   module _ (e : takes_label pass (get_or p.ilabels i (pos 0)) ≡ true) where
     abbrev pub taken_now : Taken pass p i
@@ -97,7 +96,7 @@ module _ {g : Setting} {m : Lent} {qs eps : List ℕ} {pass : Pass} {p : Part} {
       pub whole_given : WholeGiven g m qs eps pass x source a
       whole_given = subst (WholeGiven g m qs eps pass x source) (sym is) given_now
 
-      pub step_whole : (m' : Lent) (qs' : List ℕ) (r : Passed) → WholeIs g m m' qs qs' eps pass x source a r → PassAt m' qs' (step_of G i) r
+      pub step_whole : (m' : Lent) (qs' : List ℕ) (r : Result Work Reason) → WholeIs g m m' qs qs' eps pass x source a r → PassAt m' qs' (step_of G i) r
       step_whole m' qs' r W = subst (λ (o : Outcome ModelWork). PassAt m' qs' o r) (sym (test_is e)) (subst (λ (b : Arrival). WholeIs g m m' qs qs' eps pass x source b r) is W given_now)
 
 -- ---- the loop
@@ -127,27 +126,27 @@ module _ {g : Setting} {m : Lent} {qs eps : List ℕ} {pass : Pass} {p : Part} {
     abbrev pub all_now : length qs' ≡ length qs → AllGiven g m' qs' eps pass p x' source
     all_now k = record { H = G.H; t = G.t; s = G.s; w = F.w'; done = G.done; ground = subst (Ground g G.H G.done eps) (sym k) G.ground; at = F.at; token = G.token; of = G.of }
 
-    module _ (l : i < length p.ilabels) (k : length qs' ≡ length qs) {m'' : Lent} {qs'' : List ℕ} (r : Passed) (step : StepIs g m' m'' qs' qs'' eps pass p x' source i r) where
-      abbrev By : Outcome ModelWork → Passed → Type 0
+    module _ (l : i < length p.ilabels) (k : length qs' ≡ length qs) {m'' : Lent} {qs'' : List ℕ} (r : Result Work Reason) (step : StepIs g m' m'' qs' qs'' eps pass p x' source i r) where
+      abbrev By : Outcome ModelWork → Result Work Reason → Type 0
       By = PassedBy g m'' qs'' G.done G.t.path
 
       goes : all_of G ≡ (step_of (all_now k) i >>= after (i + 1))
       goes = F.rest ∙ ap (λ (rest : List Arc). arrive_all G.H (pass_of pass p.loglikes) G.t rest F.w') (arcs_next p G.s i l) ∙ all_steps G.H (pass_of pass p.loglikes) G.t (arc_in p G.s i) (arcs_from p G.s (i + 1)) F.w'
 
-      next_by : (o : Outcome ModelWork) → all_of G ≡ (o >>= after (i + 1)) → (x'' : Work) → By o (On x'') → SoFar m'' qs'' x'' (i + 1)
+      next_by : (o : Outcome ModelWork) → all_of G ≡ (o >>= after (i + 1)) → (x'' : Work) → By o (Ok x'') → SoFar m'' qs'' x'' (i + 1)
       next_by o q x'' (passed_on {w} A) = record { w' = w; at = A; rest = q }
 
-      stop_by : (o : Outcome ModelWork) → all_of G ≡ (o >>= after (i + 1)) → (n : ℕ) → By o (Refused n) → By (all_of G) (Refused n)
-      stop_by o q n (passed_refused j d z) = subst (λ (u : Outcome ModelWork). By u (Refused n)) (sym q) (passed_refused n d z)
+      stop_by : (o : Outcome ModelWork) → all_of G ≡ (o >>= after (i + 1)) → (e : Reason) → By o (Err e) → By (all_of G) (Err e)
+      stop_by o q e (passed_refused j z) = subst (λ (u : Outcome ModelWork). By u (Err e)) (sym q) (passed_refused e z)
 
-      pub far_next : (x'' : Work) → r ≡ On x'' → SoFar m'' qs'' x'' (i + 1)
+      pub far_next : (x'' : Work) → r ≡ Ok x'' → SoFar m'' qs'' x'' (i + 1)
       far_next x'' d = next_by _ goes x'' (subst (By _) d (step (all_now k)))
 
-      pub far_stop : (n : ℕ) → r ≡ Refused n → By (all_of G) (Refused n)
-      far_stop n d = stop_by _ goes n (subst (By _) d (step (all_now k)))
+      pub far_stop : (e : Reason) → r ≡ Err e → By (all_of G) (Err e)
+      far_stop e d = stop_by _ goes e (subst (By _) d (step (all_now k)))
 
-    pub far_end : length p.ilabels ≤ i → PassedBy g m' qs' G.done G.t.path (all_of G) (On x')
+    pub far_end : length p.ilabels ≤ i → PassedBy g m' qs' G.done G.t.path (all_of G) (Ok x')
     unfolding arrive_all
     far_end l =
         let none : length p.ilabels - i ≡ 0 = omega arith in
-        subst (λ (u : Outcome ModelWork). PassedBy g m' qs' G.done G.t.path u (On x')) (sym (F.rest ∙ ap (λ (n : ℕ). arrive_all G.H (pass_of pass p.loglikes) G.t (map (arc_in p G.s) (range i n)) F.w') none)) (passed_on F.at)
+        subst (λ (u : Outcome ModelWork). PassedBy g m' qs' G.done G.t.path u (Ok x')) (sym (F.rest ∙ ap (λ (n : ℕ). arrive_all G.H (pass_of pass p.loglikes) G.t (map (arc_in p G.s) (range i n)) F.w') none)) (passed_on F.at)

@@ -1,5 +1,5 @@
 -- What comes of a step after which any path may be in hand, and another path taken in hand. Assumes nothing.
-use Rattle.std.specs.Prelude.{◌≡◌, ℕ, List}
+use Rattle.std.specs.Prelude.{ℕ, List, Result, Ok, Err}
 use Rattle.model.specs.Basics.{Outcome, ok, refused}
 use Rattle.model.specs.Path.{Path, Table}
 use Rattle.model.specs.Arrive.{Work as ModelWork}
@@ -7,16 +7,16 @@ use Rattle.stores.specs.Shown.{Is}
 use Rattle.stores.specs.Rep.{Lent, Old}
 use Rattle.arrivals.specs.declared.Setting.{Setting}
 use Rattle.arcs.specs.declared.Work.{Work}
-use Rattle.arcs.specs.declared.Passed.{Passed}
-use Rattle.arcs.specs.declared.Passed.TheVariants.{Refused, On}
 use Rattle.arcs.specs.Passed.{At, PassedBy, passed_refused, passed_on}
+use Rattle.refusals.specs.declared.Reason.{Reason}
+use Rattle.refusals.specs.Numbers.{number_of}
 
-pub data EndedBy (g : Setting) (m : Lent) (qs : List ℕ) (done : Table) : Outcome ModelWork → Passed → Type 0 where
-  ended_refused : (n : ℕ) → (n ≡ 0 → ⊥) → Old g.side g.states g.cap m done → EndedBy g m qs done (refused n) (Refused n)
-  ended_on : {w : ModelWork} {x : Work} → (p : Path) → At g m qs x done p w → EndedBy g m qs done (ok w) (On x)
+pub data EndedBy (g : Setting) (m : Lent) (qs : List ℕ) (done : Table) : Outcome ModelWork → Result Work Reason → Type 0 where
+  ended_refused : (e : Reason) → Old g.side g.states g.cap m done → EndedBy g m qs done (refused (number_of e)) (Err e)
+  ended_on : {w : ModelWork} {x : Work} → (p : Path) → At g m qs x done p w → EndedBy g m qs done (ok w) (Ok x)
 
-pub ended : {g : Setting} {m : Lent} {qs : List ℕ} {done : Table} {p : Path} {o : Outcome ModelWork} {r : Passed} → PassedBy g m qs done p o r → EndedBy g m qs done o r
-ended (passed_refused n d z) = ended_refused n d z
+pub ended : {g : Setting} {m : Lent} {qs : List ℕ} {done : Table} {p : Path} {o : Outcome ModelWork} {r : Result Work Reason} → PassedBy g m qs done p o r → EndedBy g m qs done o r
+ended (passed_refused e z) = ended_refused e z
 ended {p = p} (passed_on A) = ended_on p A
 
 -- another record in hand

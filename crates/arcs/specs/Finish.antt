@@ -1,5 +1,5 @@
 -- The end of one arriving arc: the lowered cutoff, and the push.
-use Rattle.std.specs.Prelude.{◌≡◌, ◌⊎◌, ℕ, suc, ◌-◌, ◌<◌, Bool, true, false, not, ◌&&◌, ◌||◌, List, ◌∷◌, ltb, ℤ, length, get_or, Float}
+use Rattle.std.specs.Prelude.{◌≡◌, ◌⊎◌, ℕ, suc, ◌-◌, ◌<◌, Bool, true, false, not, ◌&&◌, ◌||◌, List, ◌∷◌, ltb, ℤ, length, get_or, Float, Result, Ok, Err}
 use Rattle.std.proofs.Math.Path.{refl}
 use Rattle.std.proofs.Common.{sym, ap, ap₂, ◌∙◌, subst, subst₂, inl, inr, arith, length-set, lt-ltb, le-ltb, eq-eqb, ne_eqb}
 use Rattle.lists.specs.Tests.{eq_or_not, never}
@@ -14,16 +14,16 @@ use Rattle.arrivals.specs.declared.Arrival.{Arrival}
 use Rattle.arrivals.specs.declared.Setting.{Setting}
 use Rattle.arrivals.specs.declared.Going.{Going}
 use Rattle.arrivals.specs.declared.Arrived.{Arrived}
-use Rattle.arrivals.specs.declared.Arrived.TheVariants.{Refused as NotArrived, Cut, Stays, Wins, Joins}
-use Rattle.arrivals.specs.Stood.{Stood, ArrivedBy, arrived_refused, arrived_cut, arrived_stays, arrived_wins, arrived_joins}
+use Rattle.arrivals.specs.declared.Arrived.TheVariants.{Cut, Stays, Wins, Joins}
+use Rattle.arrivals.specs.Stood.{Stood, ArrivedBy, arrived_cut, arrived_stays, arrived_wins, arrived_joins}
 use Rattle.arcs.specs.declared.Pass.{Pass}
 use Rattle.arcs.specs.declared.Pass.TheVariants.{Emitting, Nonemitting}
 use Rattle.arcs.specs.declared.Work.{Work}
-use Rattle.arcs.specs.declared.Passed.{Passed}
-use Rattle.arcs.specs.declared.Passed.TheVariants.{Refused, On}
 use Rattle.arcs.specs.Part.{pass_of, lowered}
 use Rattle.arcs.specs.Queue.{Queued, queued-length, queued_put}
 use Rattle.arcs.specs.Passed.{Ground, At, PassedBy, passed_refused, passed_on, moved_by, queued_on, PushIs, push_full, push_on}
+use Rattle.refusals.specs.declared.Reason.{Reason}
+use Rattle.refusals.specs.declared.Reason.TheVariants.{QueueFull}
 
 -- ---- what the parts of it leave, as the code has it
 
@@ -31,20 +31,19 @@ abbrev pub requeues_at : Pass → (tokens eps : List ℕ) → (side s : ℕ) →
 requeues_at (Emitting off ad) tk eps b s = false
 requeues_at Nonemitting tk eps b s = ltb 0 (get_or eps s 0) && not (ltb 0 (requeued_at tk (place_in b s)))
 
-pub data WinnerIs (qs qs' : List ℕ) (x : Work) (s : ℕ) (pass : Pass) : Passed → Type 0 where
-  winner_stays : {off ad : Float} → pass ≡ Emitting off ad → qs' ≡ qs → WinnerIs qs qs' x s pass (On x)
-  winner_pushed : {r : Passed} → pass ≡ Nonemitting → PushIs qs qs' x s r → WinnerIs qs qs' x s pass r
+pub data WinnerIs (qs qs' : List ℕ) (x : Work) (s : ℕ) (pass : Pass) : Result Work Reason → Type 0 where
+  winner_stays : {off ad : Float} → pass ≡ Emitting off ad → qs' ≡ qs → WinnerIs qs qs' x s pass (Ok x)
+  winner_pushed : {r : Result Work Reason} → pass ≡ Nonemitting → PushIs qs qs' x s r → WinnerIs qs qs' x s pass r
 
-pub data JoinedIs (tk tk' eps qs qs' : List ℕ) (b : ℕ) (pass : Pass) (x : Work) (s : ℕ) : Passed → Type 0 where
-  joined_stays : requeues_at pass tk eps b s ≡ false → tk' ≡ tk → qs' ≡ qs → JoinedIs tk tk' eps qs qs' b pass x s (On x)
-  joined_pushed : {r : Passed} → requeues_at pass tk eps b s ≡ true → Requeued tk tk' (place_in b s) → PushIs qs qs' x s r → JoinedIs tk tk' eps qs qs' b pass x s r
+pub data JoinedIs (tk tk' eps qs qs' : List ℕ) (b : ℕ) (pass : Pass) (x : Work) (s : ℕ) : Result Work Reason → Type 0 where
+  joined_stays : requeues_at pass tk eps b s ≡ false → tk' ≡ tk → qs' ≡ qs → JoinedIs tk tk' eps qs qs' b pass x s (Ok x)
+  joined_pushed : {r : Result Work Reason} → requeues_at pass tk eps b s ≡ true → Requeued tk tk' (place_in b s) → PushIs qs qs' x s r → JoinedIs tk tk' eps qs qs' b pass x s r
 
-pub data FinishIs (tk tk' eps qs qs' : List ℕ) (b : ℕ) (pass : Pass) (x : Work) (a : Arrival) (came : Arrived) : Passed → Type 0 where
-  finish_refused : (n : ℕ) → came ≡ NotArrived n → tk' ≡ tk → FinishIs tk tk' eps qs qs' b pass x a came (Refused n)
-  finish_cut : came ≡ Cut → tk' ≡ tk → qs' ≡ qs → FinishIs tk tk' eps qs qs' b pass x a came (On x)
-  finish_stays : {y : Going} {x' : Work} → came ≡ Stays y → x' ≡ moved_by pass x a.total y → tk' ≡ tk → qs' ≡ qs → FinishIs tk tk' eps qs qs' b pass x a came (On x')
-  finish_wins : {y : Going} {x' : Work} {r : Passed} → came ≡ Wins y → x' ≡ moved_by pass x a.total y → tk' ≡ tk → WinnerIs qs qs' x' a.target pass r → FinishIs tk tk' eps qs qs' b pass x a came r
-  finish_joins : {y : Going} {x' : Work} {r : Passed} → came ≡ Joins y → x' ≡ moved_by pass x a.total y → JoinedIs tk tk' eps qs qs' b pass x' a.target r → FinishIs tk tk' eps qs qs' b pass x a came r
+pub data FinishIs (tk tk' eps qs qs' : List ℕ) (b : ℕ) (pass : Pass) (x : Work) (a : Arrival) (came : Arrived) : Result Work Reason → Type 0 where
+  finish_cut : came ≡ Cut → tk' ≡ tk → qs' ≡ qs → FinishIs tk tk' eps qs qs' b pass x a came (Ok x)
+  finish_stays : {y : Going} {x' : Work} → came ≡ Stays y → x' ≡ moved_by pass x a.total y → tk' ≡ tk → qs' ≡ qs → FinishIs tk tk' eps qs qs' b pass x a came (Ok x')
+  finish_wins : {y : Going} {x' : Work} {r : Result Work Reason} → came ≡ Wins y → x' ≡ moved_by pass x a.total y → tk' ≡ tk → WinnerIs qs qs' x' a.target pass r → FinishIs tk tk' eps qs qs' b pass x a came r
+  finish_joins : {y : Going} {x' : Work} {r : Result Work Reason} → came ≡ Joins y → x' ≡ moved_by pass x a.total y → JoinedIs tk tk' eps qs qs' b pass x' a.target r → FinishIs tk tk' eps qs qs' b pass x a came r
 
 -- ---- a push
 
@@ -69,16 +68,16 @@ module _ {g : Setting} {H : Here} {done : Table} {eps : List ℕ} {places : ℕ}
 
   -- `re` are the requeued states that the stores tell of already
   pub pushed : (qs qs' : List ℕ) → length qs ≡ places → (x : Work) (s : ℕ) → s < g.states → (re : List ℕ) (w : ModelWork)
-      → At g m qs x done p (record { table = w.table; seq = w.seq; fresh = w.fresh; cutoff = w.cutoff; queue = w.queue; requeued = re }) → (r : Passed) → PushIs qs qs' x s r → PassedBy g m qs' done p (push H s re w) r
+      → At g m qs x done p (record { table = w.table; seq = w.seq; fresh = w.fresh; cutoff = w.cutoff; queue = w.queue; requeued = re }) → (r : Result Work Reason) → PushIs qs qs' x s r → PassedBy g m qs' done p (push H s re w) r
   pushed qs qs' long x s low re w A r (push_full l e) =
       let k = queued-length g.states qs x.queued w.queue A.queue in
       let o = push_full_lem H s re w (G.queue (suc (length w.queue)) ∙ lt-ltb places (suc (length w.queue)) (omega arith)) in
-      subst (λ (z : Outcome ModelWork). PassedBy g m qs' done p z (Refused 14)) (sym o) (passed_refused 14 (λ z. omega arith) (old A.stood))
+      subst (λ (z : Outcome ModelWork). PassedBy g m qs' done p z (Err QueueFull)) (sym o) (passed_refused QueueFull (old A.stood))
   pushed qs qs' long x s low re w A r (push_on l e) =
       let k = queued-length g.states qs x.queued w.queue A.queue in
       let o = push_ok H s re w (G.queue (suc (length w.queue)) ∙ le-ltb places (suc (length w.queue)) (omega arith)) in
-      subst (λ (z : Outcome ModelWork). PassedBy g m qs' done p z (On (queued_on x))) (sym o)
-      (subst (λ (q : List ℕ). PassedBy g m q done p (ok (on_queue w s re)) (On (queued_on x))) (sym e)
+      subst (λ (z : Outcome ModelWork). PassedBy g m qs' done p z (Ok (queued_on x))) (sym o)
+      (subst (λ (q : List ℕ). PassedBy g m q done p (ok (on_queue w s re)) (Ok (queued_on x))) (sym e)
       (passed_on
       (record {
         stood = queue_aside _ _ refl refl refl refl A.stood;
@@ -134,12 +133,12 @@ after_join H s w b = elim b as (λ z. Outcome ModelWork) [ true ↦ push H s (s 
 
 module _ {g : Setting} {H : Here} {done : Table} {eps : List ℕ} {places : ℕ} (G : Ground g H done eps places) (tk tk' : List ℕ) (sm : List Float) (rs : List ℕ) (rl : List ℤ) (gs : List Float) (long : length tk' ≡ length tk) (qs qs' : List ℕ)
     (room : length qs ≡ places) (p : Path) (s : ℕ) (low : s < g.states) (x : Work) (w : ModelWork) (A : At g (lent tk sm rs rl gs) qs x done p w) where
-  winner : (pass : Pass) (ls : List Float) (r : Passed) → WinnerIs qs qs' x s pass r → PassedBy g (lent tk sm rs rl gs) qs' done p (push_winner H (pass_of pass ls) s w) r
+  winner : (pass : Pass) (ls : List Float) (r : Result Work Reason) → WinnerIs qs qs' x s pass r → PassedBy g (lent tk sm rs rl gs) qs' done p (push_winner H (pass_of pass ls) s w) r
   winner pass ls r (winner_stays d e) =
       subst₂ (λ (P : Pass) (q : List ℕ). PassedBy g (lent tk sm rs rl gs) q done p (push_winner H (pass_of P ls) s w) r) (sym d) (sym e) (passed_on A)
   winner pass ls r (winner_pushed d P) = subst (λ (P : Pass). PassedBy g (lent tk sm rs rl gs) qs' done p (push_winner H (pass_of P ls) s w) r) (sym d) (pushed G qs qs' room x s low w.requeued w A r P)
 
-  joined_to : (pass : Pass) (ls : List Float) (r : Passed) → JoinedIs tk tk' eps qs qs' g.side pass x s r → PassedBy g (lent tk' sm rs rl gs) qs' done p (push_joined H (pass_of pass ls) s w) r
+  joined_to : (pass : Pass) (ls : List Float) (r : Result Work Reason) → JoinedIs tk tk' eps qs qs' g.side pass x s r → PassedBy g (lent tk' sm rs rl gs) qs' done p (push_joined H (pass_of pass ls) s w) r
   joined_to (Emitting off ad) ls r (joined_stays b e d) = subst₂ (λ (z q : List ℕ). PassedBy g (lent z sm rs rl gs) q done p (ok w) r) (sym e) (sym d) (passed_on A)
   joined_to (Emitting off ad) ls r (joined_pushed b R P) = never b
   joined_to Nonemitting ls r (joined_stays b e d) =
@@ -155,48 +154,44 @@ module _ {g : Setting} {H : Here} {done : Table} {eps : List ℕ} {places : ℕ}
   abbrev tot : Float
   tot = total H.graph (pass_of pass ls) t arc
 
-  abbrev Ends : Outcome Change → Passed → Type 0
+  abbrev Ends : Outcome Change → Result Work Reason → Type 0
   Ends o r = PassedBy g (lent tk' sm rs rl gs) qs' done t.path (o >>= finish H (pass_of pass ls) arc.target tot w) r
 
   now : {v : ModelWork} (y : Going) → v.cutoff ≡ lower (pass_of pass ls) tot w.cutoff → v.queue ≡ w.queue → Stood g (lent tk sm rs rl gs) y done t.path v → At g (lent tk sm rs rl gs) qs (moved_by pass x a.total y) done t.path v
   now y c q S = moved_on G pass ls qs x a.total y (c ∙ ap (λ (z : Float). lower (pass_of pass ls) z w.cutoff) (sym is)) q A S
 
-  same_tokens : (o : Outcome ModelWork) (r : Passed) → tk' ≡ tk → PassedBy g (lent tk sm rs rl gs) qs' done t.path o r → PassedBy g (lent tk' sm rs rl gs) qs' done t.path o r
+  same_tokens : (o : Outcome ModelWork) (r : Result Work Reason) → tk' ≡ tk → PassedBy g (lent tk sm rs rl gs) qs' done t.path o r → PassedBy g (lent tk' sm rs rl gs) qs' done t.path o r
   same_tokens o r e = subst (λ (z : List ℕ). PassedBy g (lent z sm rs rl gs) qs' done t.path o r) (sym e)
 
-  same_queue : (o : Outcome ModelWork) (r : Passed) → qs' ≡ qs → PassedBy g (lent tk sm rs rl gs) qs done t.path o r → PassedBy g (lent tk sm rs rl gs) qs' done t.path o r
+  same_queue : (o : Outcome ModelWork) (r : Result Work Reason) → qs' ≡ qs → PassedBy g (lent tk sm rs rl gs) qs done t.path o r → PassedBy g (lent tk sm rs rl gs) qs' done t.path o r
   same_queue o r e = subst (λ (z : List ℕ). PassedBy g (lent tk sm rs rl gs) z done t.path o r) (sym e)
 
   abbrev Came : Outcome Change → Arrived → Type 0
-  Came = ArrivedBy g m₀ (lent tk sm rs rl gs) H (pass_of pass ls) t arc w done
+  Came o came = ArrivedBy g m₀ (lent tk sm rs rl gs) H (pass_of pass ls) t arc w done o (Ok came)
 
-  refused_so : (o : Outcome Change) (n : ℕ) → Came o (NotArrived n) → tk' ≡ tk → Ends o (Refused n)
-  refused_so o n (arrived_refused k d z) e = same_tokens (refused n) (Refused n) e (passed_refused n d z)
-
-  cut_so : (o : Outcome Change) → Came o Cut → tk' ≡ tk → qs' ≡ qs → Ends o (On x)
+  cut_so : (o : Outcome Change) → Came o Cut → tk' ≡ tk → qs' ≡ qs → Ends o (Ok x)
   unfolding finish
-  cut_so o (arrived_cut d) e q = same_tokens (ok w) (On x) e (same_queue (ok w) (On x) q (passed_on (subst (λ (m : Lent). At g m qs x done t.path w) (sym d) A)))
+  cut_so o (arrived_cut d) e q = same_tokens (ok w) (Ok x) e (same_queue (ok w) (Ok x) q (passed_on (subst (λ (m : Lent). At g m qs x done t.path w) (sym d) A)))
 
   module _ (y : Going) (x' : Work) (moves : x' ≡ moved_by pass x a.total y) where
     now_as : {v : ModelWork} → v.cutoff ≡ lower (pass_of pass ls) tot w.cutoff → v.queue ≡ w.queue → Stood g (lent tk sm rs rl gs) y done t.path v → At g (lent tk sm rs rl gs) qs x' done t.path v
     now_as {v} c q S = subst (λ (z : Work). At g (lent tk sm rs rl gs) qs z done t.path v) (sym moves) (now y c q S)
 
-    stays_so : (o : Outcome Change) → Came o (Stays y) → tk' ≡ tk → qs' ≡ qs → Ends o (On x')
+    stays_so : (o : Outcome Change) → Came o (Stays y) → tk' ≡ tk → qs' ≡ qs → Ends o (Ok x')
     unfolding finish passed
-    stays_so o (arrived_stays S) e q = same_tokens _ (On x') e (same_queue _ (On x') q (passed_on (now_as refl refl S)))
+    stays_so o (arrived_stays S) e q = same_tokens _ (Ok x') e (same_queue _ (Ok x') q (passed_on (now_as refl refl S)))
 
-    wins_so : (o : Outcome Change) (r : Passed) → Came o (Wins y) → tk' ≡ tk → WinnerIs qs qs' x' a.target pass r → Ends o r
+    wins_so : (o : Outcome Change) (r : Result Work Reason) → Came o (Wins y) → tk' ≡ tk → WinnerIs qs qs' x' a.target pass r → Ends o r
     unfolding finish passed put
     wins_so o r (arrived_wins S) e W =
         same_tokens _ r e (winner G tk tk' sm rs rl gs long qs qs' room t.path arc.target (omega arith) x' _ (now_as refl refl S) pass ls r (subst (λ (s : ℕ). WinnerIs qs qs' x' s pass r) to W))
 
-    joins_so : (o : Outcome Change) (r : Passed) → Came o (Joins y) → JoinedIs tk tk' eps qs qs' g.side pass x' a.target r → Ends o r
+    joins_so : (o : Outcome Change) (r : Result Work Reason) → Came o (Joins y) → JoinedIs tk tk' eps qs qs' g.side pass x' a.target r → Ends o r
     unfolding finish passed put
     joins_so o r (arrived_joins S) J =
         joined_to G tk tk' sm rs rl gs long qs qs' room t.path arc.target (omega arith) x' _ (now_as refl refl S) pass ls r (subst (λ (s : ℕ). JoinedIs tk tk' eps qs qs' g.side pass x' s r) to J)
 
-  pub finished : (o : Outcome Change) (came : Arrived) (r : Passed) → Came o came → FinishIs tk tk' eps qs qs' g.side pass x a came r → Ends o r
-  finished o came r B (finish_refused n c e) = refused_so o n (subst (Came o) c B) e
+  pub finished : (o : Outcome Change) (came : Arrived) (r : Result Work Reason) → Came o came → FinishIs tk tk' eps qs qs' g.side pass x a came r → Ends o r
   finished o came r B (finish_cut c e q) = cut_so o (subst (Came o) c B) e q
   finished o came r B (finish_stays {y} {x'} c d e q) = stays_so y x' d o (subst (Came o) c B) e q
   finished o came r B (finish_wins {y} {x'} c d e W) = wins_so y x' d o r (subst (Came o) c B) e W

@@ -1,5 +1,5 @@
 -- The arcs of one state as parts of the graph's tables. Assumes nothing.
-use Rattle.std.specs.Prelude.{◌≡◌, refl, ℕ, suc, ◌+◌, ◌-◌, ◌≤◌, ◌<◌, ℤ, pos, length, take, drop, Float}
+use Rattle.std.specs.Prelude.{◌≡◌, refl, ℕ, suc, ◌+◌, ◌-◌, ◌≤◌, ◌<◌, ℤ, pos, length, take, drop, Float, Result}
 use Rattle.std.proofs.Math.Path.{sym, ap}
 use Rattle.std.proofs.Common.{ap₂, ◌∙◌, subst, arith}
 use mathlib.Core.List.{List, map}
@@ -16,10 +16,10 @@ use Rattle.stores.specs.Rep.{Lent}
 use Rattle.arrivals.specs.declared.Setting.{Setting}
 use Rattle.arcs.specs.declared.Pass.{Pass}
 use Rattle.arcs.specs.declared.Work.{Work}
-use Rattle.arcs.specs.declared.Passed.{Passed}
 use Rattle.arcs.specs.Part.{pass_of, Part, part, PartOf, arc_in, arcs_from, Hears, SourceIs}
 use Rattle.arcs.specs.Passed.{Ground, At, PassedBy}
 use Rattle.arcs.specs.All.{AllGiven, AllIs}
+use Rattle.refusals.specs.declared.Reason.{Reason}
 
 -- the graph's tables as they are lent, with the frame
 pub record Tables : Type 0 where
@@ -54,7 +54,7 @@ pub record StateGiven (g : Setting) (m : Lent) (qs eps : List ℕ) (pass : Pass)
 abbrev pub state_of : {g : Setting} {m : Lent} {qs eps : List ℕ} {pass : Pass} {T : Tables} {x : Work} {source : Stored} {s : ℕ} → StateGiven g m qs eps pass T x source s → Outcome ModelWork
 state_of {pass = pass} {T = T} {s = s} G = arrive_all G.H (pass_of pass T.arcs.loglikes) G.t (arcs_of G.H.graph s) G.w
 
-abbrev pub StateIs : (g : Setting) → (m m' : Lent) → (qs qs' eps : List ℕ) → Pass → Tables → Work → Stored → (s : ℕ) → Passed → Type 0
+abbrev pub StateIs : (g : Setting) → (m m' : Lent) → (qs qs' eps : List ℕ) → Pass → Tables → Work → Stored → (s : ℕ) → Result Work Reason → Type 0
 StateIs g m m' qs qs' eps pass T x source s r = (G : StateGiven g m qs eps pass T x source s) → PassedBy g m' qs' G.done G.t.path (state_of G) r
 
 -- ---- the part of the tables that a state's arcs are
@@ -171,7 +171,7 @@ module _ {g : Setting} {m : Lent} {qs eps : List ℕ} {pass : Pass} {T : Tables}
     pub all_given : AllGiven g m qs eps pass (part_of T a e) x source
     all_given = rw (a-is, e-is) given_all
 
-    pub state_done : (m' : Lent) (qs' : List ℕ) (r : Passed) → AllIs g m m' qs qs' eps pass (part_of T a e) x source r → PassedBy g m' qs' G.done G.t.path (state_of G) r
+    pub state_done : (m' : Lent) (qs' : List ℕ) (r : Result Work Reason) → AllIs g m m' qs qs' eps pass (part_of T a e) x source r → PassedBy g m' qs' G.done G.t.path (state_of G) r
     state_done m' qs' r A =
         let done : AllIs g m m' qs qs' eps pass (part_of T first last) x source r = rw (a-is, e-is) at A in
         subst (λ (xs : List Arc). PassedBy g m' qs' G.done G.t.path (arrive_all G.H (pass_of pass T.arcs.loglikes) G.t xs G.w) r) (sym (arcs_are G.H.graph pass T G.ground.good G.of s below)) (done given_all)

@@ -14,6 +14,7 @@ ghost use Rattle.arcs.specs.All.{AllGiven, StepIs, AllIs};
 ghost use Rattle.arcs.specs.State.{tables, StateGiven, StateIs};
 
 use arrivals::{Arrival, Arrived, Going, Setting};
+use refusals::Reason;
 use tokens::Token;
 
 // The choice of pass. The emitting one has the cost offset and the adaptive beam.
@@ -31,12 +32,6 @@ pub struct Work {
     pub link: u32,
     pub cutoff: f32,
     pub queued: usize,
-}
-
-#[derive(Clone, Copy)]
-pub enum Passed {
-    Refused(u32),
-    On(Work),
 }
 
 // The emitting pass takes the arcs with a label, the other one those without.
@@ -146,34 +141,28 @@ fn moved(pass: Pass, w: Work, total: f32, y: Going) -> Work
         seq: y.seq,
         link: y.link,
         cutoff: lower(pass, total, w.cutoff),
-        queued: w.queued,
+        ..w
     }
 }
 
 // 14 where the queue is full.
-pub fn push(queue: &mut [u32], w: Work, s: u32) -> Passed
+pub fn push(queue: &mut [u32], w: Work, s: u32) -> Result<Work, Reason>
     ensures { PushIs queue.old queue.new w s result }
 {
     let n = w.queued;
     if queue.len() <= n {
-        return Passed::Refused(refusals::QUEUE_FULL);
+        return Err(Reason::QueueFull);
     }
     queue[n] = s;
-    Passed::On(Work {
-        used: w.used,
-        seq: w.seq,
-        link: w.link,
-        cutoff: w.cutoff,
-        queued: n + 1,
-    })
+    Ok(Work { queued: n + 1, ..w })
 }
 
 // A winner goes on from its state, in the nonemitting pass.
-fn push_winner(queue: &mut [u32], pass: Pass, w: Work, s: u32) -> Passed
+fn push_winner(queue: &mut [u32], pass: Pass, w: Work, s: u32) -> Result<Work, Reason>
     ensures { WinnerIs queue.old queue.new w s pass result }
 {
     match pass {
-        Pass::Emitting(_, _) => Passed::On(w),
+        Pass::Emitting(_, _) => Ok(w),
         Pass::Nonemitting => push(queue, w, s),
     }
 }
@@ -185,12 +174,7 @@ fn requeues(tokens: &[u32], eps: &[u8], side: u32, pass: Pass, s: u32) -> bool
 {
     match pass {
         Pass::Emitting(_, _) => false,
-        Pass::Nonemitting => {
-            if eps[s as usize] == 0 {
-                return false;
-            }
-            !tokens::was_requeued(tokens, side, s)
-        }
+        Pass::Nonemitting => eps[s as usize] != 0 && !tokens::was_requeued(tokens, side, s),
     }
 }
 
@@ -203,12 +187,12 @@ fn push_joined(
     pass: Pass,
     w: Work,
     s: u32,
-) -> Passed
+) -> Result<Work, Reason>
     requires { (side ≤ 1) × (s * 8 + 8 ≤ length tokens.old) × (s < length eps.now) }
     ensures { JoinedIs tokens.old tokens.new eps.now queue.old queue.new side pass w s result }
 {
     if !requeues(tokens, eps, side, pass, s) {
-        return Passed::On(w);
+        return Ok(w);
     }
     tokens::set_requeued(tokens, side, s);
     push(queue, w, s)
@@ -224,14 +208,13 @@ fn finish(
     w: Work,
     a: Arrival,
     came: Arrived,
-) -> Passed
+) -> Result<Work, Reason>
     requires { (side ≤ 1) × (a.target * 8 + 8 ≤ length tokens.old) × (a.target < length eps.now) }
     ensures { FinishIs tokens.old tokens.new eps.now queue.old queue.new side pass w a came result }
 {
     match came {
-        Arrived::Refused(n) => Passed::Refused(n),
-        Arrived::Cut => Passed::On(w),
-        Arrived::Stays(y) => Passed::On(moved(pass, w, a.total, y)),
+        Arrived::Cut => Ok(w),
+        Arrived::Stays(y) => Ok(moved(pass, w, a.total, y)),
         Arrived::Wins(y) => push_winner(queue, pass, moved(pass, w, a.total, y), a.target),
         Arrived::Joins(y) => {
             let next = moved(pass, w, a.total, y);
@@ -254,7 +237,7 @@ fn arrive_whole(
     w: Work,
     source: Token,
     a: Arrival,
-) -> Passed
+) -> Result<Work, Reason>
     requires { WholeGiven setting (lent tokens.old sums.old records.old labels.old gaps.old) queue.old eps.now pass w source a }
     ensures { WholeIs setting (lent tokens.old sums.old records.old labels.old gaps.old) (lent tokens.new sums.new records.new labels.new gaps.new) queue.old queue.new eps.now pass w source a result }
 {
@@ -265,7 +248,7 @@ fn arrive_whole(
     };
     let came = arrivals::arrive(
         tokens, sums, records, labels, gaps, setting, w.cutoff, going, source, a,
-    );
+    )?;
     finish(tokens, queue, eps, setting.side, pass, w, a, came)
 }
 
@@ -290,12 +273,12 @@ fn arrive_at(
     w: Work,
     source: Token,
     i: usize,
-) -> Passed
+) -> Result<Work, Reason>
     requires { AllGiven setting (lent tokens.old sums.old records.old labels.old gaps.old) queue.old eps.now pass (part ilabels.now olabels.now weights.now nextstates.now tid2pdf.now tid2phone.now loglikes.now) w source × (i < length ilabels.now) }
     ensures { StepIs setting (lent tokens.old sums.old records.old labels.old gaps.old) (lent tokens.new sums.new records.new labels.new gaps.new) queue.old queue.new eps.now pass (part ilabels.now olabels.now weights.now nextstates.now tid2pdf.now tid2phone.now loglikes.now) w source i result }
 {
     if !takes(ilabels, pass, i) {
-        return Passed::On(w);
+        return Ok(w);
     }
     let a = arrival_at(
         ilabels, olabels, weights, nextstates, tid2pdf, tid2phone, loglikes, pass, source, i,
@@ -325,21 +308,18 @@ pub fn arrive_all(
     pass: Pass,
     before: Work,
     source: Token,
-) -> Passed
+) -> Result<Work, Reason>
     requires { AllGiven setting (lent tokens.old sums.old records.old labels.old gaps.old) queue.old eps.now pass (part ilabels.now olabels.now weights.now nextstates.now tid2pdf.now tid2phone.now loglikes.now) before source }
     ensures { AllIs setting (lent tokens.old sums.old records.old labels.old gaps.old) (lent tokens.new sums.new records.new labels.new gaps.new) queue.old queue.new eps.now pass (part ilabels.now olabels.now weights.now nextstates.now tid2pdf.now tid2phone.now loglikes.now) before source result }
 {
     let mut w = before;
     for i in 0..ilabels.len() {
-        match arrive_at(
+        w = arrive_at(
             tokens, sums, records, labels, gaps, queue, eps, ilabels, olabels, weights, nextstates,
             tid2pdf, tid2phone, loglikes, setting, pass, w, source, i,
-        ) {
-            Passed::Refused(n) => return Passed::Refused(n),
-            Passed::On(next) => w = next,
-        }
+        )?;
     }
-    Passed::On(w)
+    Ok(w)
 }
 
 // The arcs of a token in state s, handed on as parts that start in the middle of the arc tables.
@@ -364,7 +344,7 @@ pub fn arrive_state(
     w: Work,
     source: Token,
     s: u32,
-) -> Passed
+) -> Result<Work, Reason>
     requires { StateGiven setting (lent tokens.old sums.old records.old labels.old gaps.old) queue.old eps.now pass (tables offsets.now ilabels.now olabels.now weights.now nextstates.now tid2pdf.now tid2phone.now loglikes.now) w source s }
     ensures { StateIs setting (lent tokens.old sums.old records.old labels.old gaps.old) (lent tokens.new sums.new records.new labels.new gaps.new) queue.old queue.new eps.now pass (tables offsets.now ilabels.now olabels.now weights.now nextstates.now tid2pdf.now tid2phone.now loglikes.now) w source s result }
 {

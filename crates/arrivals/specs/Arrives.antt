@@ -1,5 +1,5 @@
 -- One arriving arc, from what its parts leave to what the definition gives. Assumes nothing.
-use Rattle.std.specs.Prelude.{◌≡◌, ℕ, suc, ◌+◌, ◌*◌, ◌^◌, ◌<◌, ◌≤◌, Bool, true, false, cond, ◌⊎◌, List, ◌∷◌, ◌++◌, length, ℤ, nat_lt, slice_index_or, slice_set, Float}
+use Rattle.std.specs.Prelude.{is_some, ◌≡◌, ℕ, suc, ◌+◌, ◌*◌, ◌^◌, ◌<◌, ◌≤◌, Bool, true, false, cond, ◌⊎◌, List, ◌∷◌, ◌++◌, length, ℤ, nat_lt, slice_index_or, slice_set, Float, Result, Ok, Err}
 use Rattle.std.proofs.Math.Path.{refl, ap, subst}
 use Rattle.std.proofs.Common.{sym, ◌∙◌, inl, inr}
 use native.Mathlib.Omega.{arith}
@@ -11,7 +11,7 @@ use Rattle.model.specs.Graph.{Arc}
 use Rattle.model.specs.Path.{Path, Token, paths}
 use Rattle.model.specs.Arrive.{Pass, total, Here, Work, Meets as Met, past_cutoff, vacant, better, not_better, against, meets, path_in_hand, Change, arc_cut, token_stays, token_wins, token_joins, settle, passed, put, place_of}
 use Rattle.model.proofs.Came.{SettledBy, settle_settled}
-use Rattle.model.specs.Accepted.{Ok}
+use Rattle.model.specs.Accepted.{Ok as Accepted}
 use Rattle.tokens.specs.declared.Token.{Token as Stored}
 use Rattle.tokens.specs.Layout.{Cell, cell_at, requeued_at, place_in, TokenPut, token_of}
 use Rattle.records.specs.History.{History}
@@ -33,14 +33,16 @@ use Rattle.arrivals.specs.declared.Setting.{Setting}
 use Rattle.arrivals.specs.declared.Going.{Going}
 use Rattle.arrivals.specs.declared.Counts.{Counts}
 use Rattle.arrivals.specs.declared.Settled.{Settled}
-use Rattle.arrivals.specs.declared.Settled.TheVariants.{Refused as NotSettled, Stays as Stay, Wins as Win, Joins as Join}
+use Rattle.arrivals.specs.declared.Settled.TheVariants.{Stays as Stay, Wins as Win, Joins as Join}
 use Rattle.arrivals.specs.declared.Arrived.{Arrived}
-use Rattle.arrivals.specs.declared.Arrived.TheVariants.{Refused, Cut, Stays, Wins, Joins}
+use Rattle.arrivals.specs.declared.Arrived.TheVariants.{Cut, Stays, Wins, Joins}
 use Rattle.arrivals.specs.Arrival.{links, is_cut_off, meets_at, cut_test, meets_same}
 use Rattle.arrivals.specs.Settled.{with_link, counts, SettleAsks, SettledIs}
 use Rattle.arrivals.specs.Settles.{Scene, TokenOn, SettleEnds, ends_refused, ends_stays, ends_wins, ends_joins, settled_is}
 use Rattle.arrivals.specs.Room.{RoomIs, not_wanted, room_made}
 use Rattle.arrivals.specs.Stood.{Stood, Given, ArrivedBy, arrived_refused, arrived_cut, arrived_stays, arrived_wins, arrived_joins}
+use Rattle.refusals.specs.declared.Reason.{Reason}
+use Rattle.refusals.specs.declared.Reason.TheVariants.{SumTooLarge}
 
 abbrev pub going : (used seq link : ℕ) → Going
 going u q l = record { used = u; seq = q; link = l }
@@ -50,7 +52,7 @@ abbrev pub comes_of : {g : Setting} {m : Lent} {cutoff : Float} {y : Going} {x :
 comes_of G = settle G.H G.P G.t G.arc G.w (meets G.w.cutoff (total G.H.graph G.P G.t G.arc) (place_of G.w G.arc))
 
 -- what one arriving arc leaves
-abbrev pub ArriveIs : (g : Setting) → (m m' : Lent) → (cutoff : Float) → Going → Stored → Arrival → Arrived → Type 0
+abbrev pub ArriveIs : (g : Setting) → (m m' : Lent) → (cutoff : Float) → Going → Stored → Arrival → Result Arrived Reason → Type 0
 ArriveIs g m m' cutoff y x a r = (G : Given g m cutoff y x a) → ArrivedBy g m m' G.H G.P G.t G.arc G.w G.done (comes_of G) r
 
 -- ---- seqs
@@ -67,7 +69,7 @@ module _ (H : Here) (P : Pass) (t : Token) (arc : Arc) (w : Work) (cut tot : Flo
   replaced held e = omega (arith, vacant_same w.table arc.target held u e)
 
   settled_by : (z : Change) (m : Met) → settle H P t arc w m ≡ ok z → SettledBy H P t arc w m z
-  settled_by z m e = subst (Ok (SettledBy H P t arc w m)) e (settle_settled H P t arc w m)
+  settled_by z m e = subst (Accepted (SettledBy H P t arc w m)) e (settle_settled H P t arc w m)
 
   abbrev seq_of : Change → ℕ
   seq_of arc_cut = 0
@@ -134,7 +136,7 @@ module _ (g : Setting) (m : Lent) (cutoff : Float) (y : Going) (x : Stored) (a :
   abbrev cell : Cell
   cell = cell_at m.tokens m.sums (place_in g.side a.target)
 
-  abbrev By : Lent → Arrived → Type 0
+  abbrev By : Lent → Result Arrived Reason → Type 0
   By m' r = ArrivedBy g m m' H P t arc w G.done (comes_of G) r
 
   -- the code's test is the model's
@@ -142,7 +144,7 @@ module _ (g : Setting) (m : Lent) (cutoff : Float) (y : Going) (x : Stored) (a :
   test_is = ap (λ (z : Float). z ≼ tot) G.cutoff_is ∙ ap (λ (z : Float). cutoff ≼ z) (sym G.arrival.total) ∙ sym (cut_test cutoff a.total cell)
 
   -- at or above the cutoff
-  pub cut_is : is_cut_off (meets_at cutoff a.total cell) ≡ true → (m' : Lent) → m' ≡ m → By m' Cut
+  pub cut_is : is_cut_off (meets_at cutoff a.total cell) ≡ true → (m' : Lent) → m' ≡ m → By m' (Ok Cut)
   unfolding meets settle
   cut_is e m' q = rw (test_is ∙ e, meets) (arrived_cut q)
 
@@ -161,20 +163,20 @@ module _ (g : Setting) (m : Lent) (cutoff : Float) (y : Going) (x : Stored) (a :
   room_asks = rep_holds G.pass.side G.stood.rep g.cap G.stood.fits G.pass.small G.stood.places
 
   -- 12, for the total
-  pub total_refused : is_cut_off (meets_at cutoff a.total cell) ≡ false → tame a.total ≡ false → By m (Refused 12)
+  pub total_refused : is_cut_off (meets_at cutoff a.total cell) ≡ false → tame a.total ≡ false → By m (Err SumTooLarge)
   unfolding meets settle
   total_refused e q = go (place_of w arc)
     where
       big : tame tot ≡ false
       big = ap tame (sym G.arrival.total) ∙ q
 
-      go : (o : Option Token) → ArrivedBy g m m H P t arc w G.done (settle H P t arc w (meets w.cutoff tot o)) (Refused 12)
-      go none = rw (test_is ∙ e, meets, big) (arrived_refused 12 (λ z. omega arith) old_is)
+      go : (o : Option Token) → ArrivedBy g m m H P t arc w G.done (settle H P t arc w (meets w.cutoff tot o)) (Err SumTooLarge)
+      go none = rw (test_is ∙ e, meets, big) (arrived_refused SumTooLarge old_is)
       go (some u) = rw (test_is ∙ e, meets) (of_cost (tot ≺ u.cost))
         where
-          of_cost : (b : Bool) → ArrivedBy g m m H P t arc w G.done (settle H P t arc w (cond b (better (u.cost ⊖ tot) u) (not_better (tot ⊖ u.cost) u))) (Refused 12)
-          of_cost true = rw big (arrived_refused 12 (λ z. omega arith) old_is)
-          of_cost false = rw big (arrived_refused 12 (λ z. omega arith) old_is)
+          of_cost : (b : Bool) → ArrivedBy g m m H P t arc w G.done (settle H P t arc w (cond b (better (u.cost ⊖ tot) u) (not_better (tot ⊖ u.cost) u))) (Err SumTooLarge)
+          of_cost true = rw big (arrived_refused SumTooLarge old_is)
+          of_cost false = rw big (arrived_refused SumTooLarge old_is)
 
   -- ---- with room made
 
@@ -195,7 +197,7 @@ module _ (g : Setting) (m : Lent) (cutoff : Float) (y : Going) (x : Stored) (a :
 
     -- from what the stores stand for
     make_ready : (v : Made) (r : Rep g.side g.states m₁ v.used v.x t.path G.done w.table w.fresh) → v.used ≤ g.cap → ((q : ℕ) → requeued_at tk₁ q ≡ requeued_at m.tokens q)
-        → (Tight 2 g.cap r.h v.used (path_in_hand H w t.path) ⊎ ((links (x₁ v) a ≡ false) × (g.keeps ≡ false))) → Ready v
+        → (Tight 2 g.cap r.h v.used (path_in_hand H w t.path) ⊎ ((links (x₁ v) a ≡ false) × (is_some g.margin ≡ false))) → Ready v
     make_ready v r f e d =
         let z = G.stood in
         let c = G.pass in
@@ -226,7 +228,7 @@ module _ (g : Setting) (m : Lent) (cutoff : Float) (y : Going) (x : Stored) (a :
     pub ready : (v : Made) → RoomIs (store_of m) (store rs₁ ls₁ gs₁) m.tokens tk₁ g y.used (with_link x y.link) a v → Ready v
     ready v (not_wanted e s k) =
         let d : m₁ ≡ m = λ i. lent (k i) m.sums (s i).records (s i).labels (s i).gaps in
-        make_ready v (rep_as m m₁ d G.stood.rep) G.stood.fits (λ q. ap (λ (l : List ℕ). requeued_at l q) k) (inr (or_neither (links (with_link x y.link) a) g.keeps e))
+        make_ready v (rep_as m m₁ d G.stood.rep) G.stood.fits (λ q. ap (λ (l : List ℕ). requeued_at l q) k) (inr (or_neither (links (with_link x y.link) a) (is_some g.margin) e))
     ready v (room_made R) =
         let r = G.stood.rep in
         let c = R.carried in
@@ -236,13 +238,13 @@ module _ (g : Setting) (m : Lent) (cutoff : Float) (y : Going) (x : Stored) (a :
     -- ---- and the arc settled
 
     -- What `arrive` gives for what `settle` gave; where that is a token, once it is put.
-    abbrev pub FinishedBy : Made → (rs₂ : List ℕ) → (ls₂ : List ℤ) → (gs₂ : List Float) → Settled → Type 0
-    FinishedBy v rs₂ ls₂ gs₂ (NotSettled n) = By (lent tk₁ m.sums rs₂ ls₂ gs₂) (Refused n)
-    FinishedBy v rs₂ ls₂ gs₂ Stay = By (lent tk₁ m.sums rs₂ ls₂ gs₂) (Stays (going v.used y.seq v.x))
-    FinishedBy v rs₂ ls₂ gs₂ (Win z k) =
-        (tk₂ : List ℕ) (sm₂ : List Float) → length tk₂ ≡ length tk₁ → length sm₂ ≡ length m.sums → TokenPut tk₁ tk₂ m.sums sm₂ (place_in g.side a.target) z → By (lent tk₂ sm₂ rs₂ ls₂ gs₂) (Wins (going k.used k.seq v.x))
-    FinishedBy v rs₂ ls₂ gs₂ (Join z k) =
-        (tk₂ : List ℕ) (sm₂ : List Float) → length tk₂ ≡ length tk₁ → length sm₂ ≡ length m.sums → TokenPut tk₁ tk₂ m.sums sm₂ (place_in g.side a.target) z → By (lent tk₂ sm₂ rs₂ ls₂ gs₂) (Joins (going k.used k.seq v.x))
+    abbrev pub FinishedBy : Made → (rs₂ : List ℕ) → (ls₂ : List ℤ) → (gs₂ : List Float) → Result Settled Reason → Type 0
+    FinishedBy v rs₂ ls₂ gs₂ (Err e) = By (lent tk₁ m.sums rs₂ ls₂ gs₂) (Err e)
+    FinishedBy v rs₂ ls₂ gs₂ (Ok Stay) = By (lent tk₁ m.sums rs₂ ls₂ gs₂) (Ok (Stays (going v.used y.seq v.x)))
+    FinishedBy v rs₂ ls₂ gs₂ (Ok (Win z k)) =
+        (tk₂ : List ℕ) (sm₂ : List Float) → length tk₂ ≡ length tk₁ → length sm₂ ≡ length m.sums → TokenPut tk₁ tk₂ m.sums sm₂ (place_in g.side a.target) z → By (lent tk₂ sm₂ rs₂ ls₂ gs₂) (Ok (Wins (going k.used k.seq v.x)))
+    FinishedBy v rs₂ ls₂ gs₂ (Ok (Join z k)) =
+        (tk₂ : List ℕ) (sm₂ : List Float) → length tk₂ ≡ length tk₁ → length sm₂ ≡ length m.sums → TokenPut tk₁ tk₂ m.sums sm₂ (place_in g.side a.target) z → By (lent tk₂ sm₂ rs₂ ls₂ gs₂) (Ok (Joins (going k.used k.seq v.x)))
 
     module _ (v : Made) (R : Ready v) (rs₂ : List ℕ) (ls₂ : List ℤ) (gs₂ : List Float) (room₂ : Room (store rs₂ ls₂ gs₂) g.cap) where
       abbrev m₂ : Lent
@@ -264,7 +266,7 @@ module _ (g : Setting) (m : Lent) (cutoff : Float) (y : Going) (x : Stored) (a :
           let l : arc.target < length w.table = let z = R.stood.rep.progress.size in let k = G.target in let d = G.arrival.target in omega arith in
           omega (arith, vacant_fill w.table arc.target t l e, G.stood.seqs)
 
-      settled : (r : Settled) → SettledIs (store_of m₁) (store_of m₂) g (counts v.used y.seq) (x₁ v) a (cell_at tk₁ m.sums (place_in g.side a.target)) (meets_at cutoff a.total cell) r
+      settled : (r : Result Settled Reason) → SettledIs (store_of m₁) (store_of m₂) g (counts v.used y.seq) (x₁ v) a (cell_at tk₁ m.sums (place_in g.side a.target)) (meets_at cutoff a.total cell) r
           → SettleEnds h v.used (store_of m₁) (store_of m₂) g.cap w.fresh w.seq (comes_of G) r
       settled r f =
           let c₁ = cell_at tk₁ m.sums (place_in g.side a.target) in
@@ -321,15 +323,15 @@ module _ (g : Setting) (m : Lent) (cutoff : Float) (y : Going) (x : Stored) (a :
       inside : arc.target < length w.table
       inside = let z = R.stood.rep.progress.size in let k = G.target in let d = G.arrival.target in omega arith
 
-      finish_by : (o : Outcome Change) → comes_of G ≡ o → (r : Settled) → SettleEnds h v.used (store_of m₁) (store_of m₂) g.cap w.fresh w.seq o r → FinishedBy v rs₂ ls₂ gs₂ r
-      finish_by o e r (ends_refused n ne z) = rw e (arrived_refused n ne (grown_old z.h' z.used' z.fits z.grown z.stands))
+      finish_by : (o : Outcome Change) → comes_of G ≡ o → (r : Result Settled Reason) → SettleEnds h v.used (store_of m₁) (store_of m₂) g.cap w.fresh w.seq o r → FinishedBy v rs₂ ls₂ gs₂ r
+      finish_by o e r (ends_refused n z) = rw e (arrived_refused n (grown_old z.h' z.used' z.fits z.grown z.stands))
       finish_by o e r (ends_stays q) = rw e (arrived_stays (later (λ i. lent tk₁ m.sums (q i).records (q i).labels (q i).gaps)))
       finish_by o e r (ends_wins {u} {y = z} {k} T) =
           λ tk₂ sm₂ lt ls p. rw e (arrived_wins (put_on z k u k.seq T refl (seqs_won H P t arc w w.cutoff tot inside R.stood.seqs u k.seq e) tk₂ sm₂ lt ls p))
       finish_by o e r (ends_joins {u} {y = z} {k} T q) =
           λ tk₂ sm₂ lt ls p. rw e (arrived_joins (put_on z k u w.seq T q (seqs_joined H P t arc w w.cutoff tot inside R.stood.seqs u e) tk₂ sm₂ lt ls p))
 
-      pub finished : (r : Settled) → SettledIs (store_of m₁) (store_of m₂) g (counts v.used y.seq) (x₁ v) a (cell_at tk₁ m.sums (place_in g.side a.target)) (meets_at cutoff a.total cell) r → FinishedBy v rs₂ ls₂ gs₂ r
+      pub finished : (r : Result Settled Reason) → SettledIs (store_of m₁) (store_of m₂) g (counts v.used y.seq) (x₁ v) a (cell_at tk₁ m.sums (place_in g.side a.target)) (meets_at cutoff a.total cell) r → FinishedBy v rs₂ ls₂ gs₂ r
       finished r f = finish_by (comes_of G) refl r (settled r f)
 
       -- what safety asks before the arc is settled
@@ -363,7 +365,7 @@ module _ (g : Setting) (m : Lent) (cutoff : Float) (y : Going) (x : Stored) (a :
   pub then_asks : SettleAsks (store rs₁ ls₁ gs₁) g (counts v.used y.seq) (with_link x v.x) (token_of (cell_at tk₁ m.sums (place_in g.side a.target)))
   then_asks = settle_asks g m cutoff y x a G passes small tk₁ rs₁ ls₁ gs₁ lt room_then v then_ready rs₁ ls₁ gs₁ room_then
 
-  pub arrived : (rs₂ : List ℕ) (ls₂ : List ℤ) (gs₂ : List Float) → length rs₂ ≡ length rs₁ → length ls₂ ≡ length ls₁ → length gs₂ ≡ length gs₁ → (r : Settled)
+  pub arrived : (rs₂ : List ℕ) (ls₂ : List ℤ) (gs₂ : List Float) → length rs₂ ≡ length rs₁ → length ls₂ ≡ length ls₁ → length gs₂ ≡ length gs₁ → (r : Result Settled Reason)
       → SettledIs (store rs₁ ls₁ gs₁) (store rs₂ ls₂ gs₂) g (counts v.used y.seq) (with_link x v.x) a (cell_at tk₁ m.sums (place_in g.side a.target)) (meets_at cutoff a.total (cell_at m.tokens m.sums (place_in g.side a.target))) r
       → FinishedBy g m cutoff y x a G passes small tk₁ rs₁ ls₁ gs₁ lt room_then v rs₂ ls₂ gs₂ r
   arrived rs₂ ls₂ gs₂ kr kl kg r f = finished g m cutoff y x a G passes small tk₁ rs₁ ls₁ gs₁ lt room_then v then_ready rs₂ ls₂ gs₂ (room_as rs₁ rs₂ ls₁ ls₂ gs₁ gs₂ kr kl kg room_then) r f

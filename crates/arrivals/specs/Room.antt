@@ -1,5 +1,5 @@
 -- What room was made: none where no record can be wanted.
-use Rattle.std.specs.Prelude.{◌≡◌, ℕ, ◌*◌, Bool, false, ◌||◌, List}
+use Rattle.std.specs.Prelude.{is_some, ◌≡◌, ℕ, ◌*◌, Bool, false, ◌||◌, List}
 use Rattle.tokens.specs.declared.Token.{Token as Stored}
 use Rattle.records.specs.Layout.{Store}
 use Rattle.compaction.specs.declared.Made.{Made}
@@ -10,7 +10,7 @@ use Rattle.arrivals.specs.Arrival.{links}
 
 -- a link, or a join where a margin is set
 abbrev pub wants : Setting → Stored → Arrival → Bool
-wants g x a = links x a || g.keeps
+wants g x a = links x a || is_some g.margin
 
 pub data RoomIs (s s' : Store) (tk tk' : List ℕ) (g : Setting) (used : ℕ) (x : Stored) (a : Arrival) : Made → Type 0 where
   not_wanted : wants g x a ≡ false → s' ≡ s → tk' ≡ tk → RoomIs s s' tk tk' g used x a (record { used = used; x = x.link })

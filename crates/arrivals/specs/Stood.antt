@@ -1,5 +1,5 @@
 -- Where a pass stands: what does not change during it, what the stores stand for, and what one arriving arc leaves.
-use Rattle.std.specs.Prelude.{◌≡◌, ℕ, ◌+◌, ◌^◌, ◌<◌, ◌≤◌, List, pos, ◌≢◌, nat_lt, Float}
+use Rattle.std.specs.Prelude.{◌≡◌, ℕ, ◌+◌, ◌^◌, ◌<◌, ◌≤◌, List, pos, nat_lt, Float, Result, Ok, Err}
 use Rattle.model.specs.Basics.{Outcome, ok, refused}
 use Rattle.model.specs.Graph.{Arc}
 use Rattle.model.specs.Path.{Path, Token, Table, paths, memℕ, full_at}
@@ -13,9 +13,10 @@ use Rattle.arrivals.specs.declared.Arrival.{Arrival}
 use Rattle.arrivals.specs.declared.Setting.{Setting}
 use Rattle.arrivals.specs.declared.Going.{Going}
 use Rattle.arrivals.specs.declared.Arrived.{Arrived}
-use Rattle.arrivals.specs.declared.Arrived.TheVariants.{Refused, Cut, Stays, Wins, Joins}
+use Rattle.arrivals.specs.declared.Arrived.TheVariants.{Cut, Stays, Wins, Joins}
 use Rattle.arrivals.specs.Arrival.{ArrivalIs}
-use Rattle.arrivals.specs.Settled.{margin_in}
+use Rattle.refusals.specs.declared.Reason.{Reason}
+use Rattle.refusals.specs.Numbers.{number_of}
 
 -- the setting is the model's; the finished table is `done`
 pub record PassIs (g : Setting) (H : Here) (done : Table) : Type 0 where
@@ -24,7 +25,7 @@ pub record PassIs (g : Setting) (H : Here) (done : Table) : Type 0 where
   pub small : g.cap ≤ 1048576
   pub before : H.before ≡ paths done
   pub frame : g.frame ≡ H.frame
-  pub margin : H.margin ≡ margin_of (margin_in g)
+  pub margin : H.margin ≡ margin_of g.margin
   pub full : (ps : List Path) → H.limits.full ps ≡ full_at g.cap ps
 
 -- The stores stand for the work, with a path in hand. There is a seq for every state that has none yet.
@@ -52,9 +53,9 @@ pub record Given (g : Setting) (m : Lent) (cutoff : Float) (y : Going) (x : Stor
   pub target : a.target < g.states
 
 -- what it leaves, by what the definition's `settle` gives
-pub data ArrivedBy (g : Setting) (m m' : Lent) (H : Here) (P : Pass) (t : Token) (arc : Arc) (w : Work) (done : Table) : Outcome Change → Arrived → Type 0 where
-  arrived_refused : (n : ℕ) → (n ≢ 0) → Old g.side g.states g.cap m' done → ArrivedBy g m m' H P t arc w done (refused n) (Refused n)
-  arrived_cut : m' ≡ m → ArrivedBy g m m' H P t arc w done (ok arc_cut) Cut
-  arrived_stays : {y : Going} → Stood g m' y done t.path (passed P (total H.graph P t arc) w) → ArrivedBy g m m' H P t arc w done (ok token_stays) (Stays y)
-  arrived_wins : {y : Going} {u : Token} {q : ℕ} → Stood g m' y done t.path (put arc.target u q (passed P (total H.graph P t arc) w)) → ArrivedBy g m m' H P t arc w done (ok (token_wins u q)) (Wins y)
-  arrived_joins : {y : Going} {u : Token} → Stood g m' y done t.path (put arc.target u w.seq (passed P (total H.graph P t arc) w)) → ArrivedBy g m m' H P t arc w done (ok (token_joins u)) (Joins y)
+pub data ArrivedBy (g : Setting) (m m' : Lent) (H : Here) (P : Pass) (t : Token) (arc : Arc) (w : Work) (done : Table) : Outcome Change → Result Arrived Reason → Type 0 where
+  arrived_refused : (e : Reason) → Old g.side g.states g.cap m' done → ArrivedBy g m m' H P t arc w done (refused (number_of e)) (Err e)
+  arrived_cut : m' ≡ m → ArrivedBy g m m' H P t arc w done (ok arc_cut) (Ok Cut)
+  arrived_stays : {y : Going} → Stood g m' y done t.path (passed P (total H.graph P t arc) w) → ArrivedBy g m m' H P t arc w done (ok token_stays) (Ok (Stays y))
+  arrived_wins : {y : Going} {u : Token} {q : ℕ} → Stood g m' y done t.path (put arc.target u q (passed P (total H.graph P t arc) w)) → ArrivedBy g m m' H P t arc w done (ok (token_wins u q)) (Ok (Wins y))
+  arrived_joins : {y : Going} {u : Token} → Stood g m' y done t.path (put arc.target u w.seq (passed P (total H.graph P t arc) w)) → ArrivedBy g m m' H P t arc w done (ok (token_joins u)) (Ok (Joins y))

@@ -1,5 +1,5 @@
 -- A winner: what `put_on` leaves is the definition's `check_winner`, and a record stands for the new path. Assumes nothing.
-use Rattle.std.specs.Prelude.{◌≡◌, ℕ, suc, ◌<◌, ◌≤◌, Bool, true, false, not, ◌&&◌, List, ◌++◌, ℤ, pos, ◌==◌, ◌≢◌, Float}
+use Rattle.std.specs.Prelude.{◌≡◌, ℕ, suc, ◌<◌, ◌≤◌, Bool, true, false, not, ◌&&◌, List, ◌++◌, ℤ, pos, ◌==◌, Float, Result, Ok, Err}
 use Rattle.std.proofs.Math.Path.{refl, sym, ap, subst}
 use Rattle.std.proofs.Common.{ap₂, ◌∙◌, arith, eq-eqb, ne_eqb}
 use mathlib.Core.List.Memᴰ.{tail as there}
@@ -18,10 +18,11 @@ use Rattle.stores.specs.Shown.{Is}
 use Rattle.stores.specs.Grown.{Grown, grown_self, grown_put}
 use Rattle.arrivals.specs.declared.Arrival.{Arrival}
 use Rattle.arrivals.specs.declared.Setting.{Setting}
-use Rattle.arrivals.specs.declared.PutOn.{PutOn}
-use Rattle.arrivals.specs.declared.PutOn.TheVariants.{Refused, On}
 use Rattle.arrivals.specs.Arrival.{ArrivalIs, links, starts_of, starts_is, links_is}
+use Rattle.arrivals.specs.declared.Linked.{Linked}
 use Rattle.arrivals.specs.PutOn.{PutOnIs, sum_refused, record_refused, link_on_it, no_link_on_it}
+use Rattle.refusals.specs.declared.Reason.{Reason}
+use Rattle.refusals.specs.Numbers.{number_of}
 
 -- Records were put on, and record l stands for a path; `fresh` is a number that the model has not given out.
 pub record OnPath (h : ℕ → History) (used : ℕ) (s' : Store) (used' l : ℕ) (p : Path) (fresh : ℕ) : Type 0 where
@@ -48,9 +49,9 @@ module _ (H : Here) (P : Pass) (t : Token) (arc : Arc) (w : Work) (g : Setting) 
       pub known : Known h used (path_in_hand H w t.path) → Known on.h' u (path_in_hand H w new)
       pub tight : (k : ℕ) → Tight (suc k) g.cap h used (path_in_hand H w t.path) → Tight k g.cap on.h' u (path_in_hand H w new)
 
-    abbrev pub WonBy : PutOn → Type 0
-    WonBy (Refused n) = (check_winner H w P t arc ≡ refused n) × (n ≢ 0) × (store rs' ls' gs ≡ store rs ls gs)
-    WonBy (On l u) = Won l u
+    abbrev pub WonBy : Result Linked Reason → Type 0
+    WonBy (Err e) = (check_winner H w P t arc ≡ refused (number_of e)) × (store rs' ls' gs ≡ store rs ls gs)
+    WonBy (Ok on) = Won on.link on.used
 
     winner_is : (b c d : Bool) → tame (t.graph ⊕ arc.weight) ≡ b → is_link (step_on H P t arc 0 false) ≡ c → full ≡ d → check_winner H w P t arc ≡ (check 12 b >>= λ u. check 13 (not (c && d)))
     unfolding check_winner
@@ -107,13 +108,12 @@ module _ (H : Here) (P : Pass) (t : Token) (arc : Arc) (w : Work) (g : Setting) 
           tight = λ k m. tight_link h used step t.path rest e refl k g.cap x.link m;
         })
 
-    pub won : (r : PutOn) → PutOnIs rs rs' ls ls' g used x a r → WonBy r
-    won (Refused n) (sum_refused e p q) = (winner_is false (is_link (step_on H P t arc 0 false)) full (sym (ap tame i.graph) ∙ e) refl refl, λ z. omega arith, ap₂ (λ (b : List ℕ) (c : List ℤ). store b c gs) p q)
-    won (Refused n) (record_refused e f k p q) = (
+    pub won : (r : Result Linked Reason) → PutOnIs rs rs' ls ls' g used x a r → WonBy r
+    won (Err r) (sum_refused e p q) = (winner_is false (is_link (step_on H P t arc 0 false)) full (sym (ap tame i.graph) ∙ e) refl refl, ap₂ (λ (b : List ℕ) (c : List ℤ). store b c gs) p q)
+    won (Err r) (record_refused e f k p q) = (
       winner_is true true true (sym (ap tame i.graph) ∙ e) (sym (links_is H P t arc a x 0 false i phone) ∙ f) (exact f ∙ eq-eqb used g.cap k),
-      λ z. omega arith,
       ap₂ (λ (b : List ℕ) (c : List ℤ). store b c gs) p q,
     )
-    won (On l u) (link_on_it {r} e f k p) =
+    won (Ok on) (link_on_it {r} e f k p) =
         link_on (winner_is true true false (sym (ap tame i.graph) ∙ e) (sym (links_is H P t arc a x 0 false i phone) ∙ f) (exact f ∙ ne_eqb used g.cap (λ z. omega arith))) f k r p
-    won (On l u) (no_link_on_it e f p q) = quiet_on (winner_is true false full (sym (ap tame i.graph) ∙ e) (sym (links_is H P t arc a x 0 false i phone) ∙ f) refl) f p q
+    won (Ok on) (no_link_on_it e f p q) = quiet_on (winner_is true false full (sym (ap tame i.graph) ∙ e) (sym (links_is H P t arc a x 0 false i phone) ∙ f) refl) f p q

@@ -11,10 +11,10 @@ ghost use Rattle.arrivals.specs.Stood.{Given};
 ghost use Rattle.arrivals.specs.Arrives.{ArriveIs};
 ghost use Rattle.records.specs.Layout.{store};
 ghost use Rattle.arrivals.specs.PutOn.{RoomFor, PutOnIs};
-ghost use Rattle.arrivals.specs.Settled.{margin_in, with_link, new_token, SettleAsks, FillIs, BeatIs, LoseIs, SettledIs};
+ghost use Rattle.arrivals.specs.Settled.{with_link, new_token, SettleAsks, FillIs, BeatIs, LoseIs, SettledIs};
 
 use compaction::Made;
-use joins::{Keeping, Margin};
+use refusals::Reason;
 use tokens::Token;
 
 // What an arc brings to its target: its total, the graph sum, its word (0 for none), the phone it is in, and the target.
@@ -34,8 +34,7 @@ pub struct Setting {
     pub states: u32,
     pub cap: u32,
     pub frame: u32,
-    pub keeps: bool,
-    pub margin: f32,
+    pub margin: Option<f32>,
 }
 
 // What an arc meets: a total at or above the cutoff, a state with no token, or one whose token it beats, or does not, by a gap.
@@ -76,18 +75,14 @@ fn starts(source: Token, a: Arrival) -> u32
 fn is_link(source: Token, a: Arrival) -> bool
     ensures { result ≡ links source a }
 {
-    let word = a.word;
-    if word != 0 {
-        return true;
-    }
-    starts(source, a) != 0
+    a.word != 0 || starts(source, a) != 0
 }
 
 // A winner's newest record, and how many records there are then.
 #[derive(Clone, Copy)]
-pub enum PutOn {
-    Refused(u32),
-    On(u32, u32),
+pub struct Linked {
+    pub link: u32,
+    pub used: u32,
 }
 
 // A winner's graph sum (12), then its record (13) where it has a word or changes the phone.
@@ -98,31 +93,32 @@ fn put_on(
     used: u32,
     source: Token,
     a: Arrival,
-) -> PutOn
+) -> Result<Linked, Reason>
     requires { RoomFor setting.cap used records.old labels.old }
     ensures { PutOnIs records.old records.new labels.old labels.new setting used source a result }
 {
     if !real32::is_tame(a.graph) {
-        return PutOn::Refused(refusals::SUM_TOO_LARGE);
+        return Err(Reason::SumTooLarge);
     }
     if !is_link(source, a) {
-        return PutOn::On(source.link, used);
+        return Ok(Linked {
+            link: source.link,
+            used,
+        });
     }
     if used == setting.cap {
-        return PutOn::Refused(refusals::RECORDS_FULL);
+        return Err(Reason::RecordsFull);
     }
-    let word = a.word;
-    let starts = starts(source, a);
     let link = records::put_link(
         records,
         labels,
         used,
         source.link,
         setting.frame,
-        word,
-        starts,
+        a.word,
+        starts(source, a),
     );
-    PutOn::On(link, link)
+    Ok(Linked { link, used: link })
 }
 
 // How many records there are, and the latest seq.
@@ -135,7 +131,6 @@ pub struct Counts {
 // What becomes of the state: its token stays, or it has this token, new or with a loser joined to it.
 #[derive(Clone, Copy)]
 pub enum Settled {
-    Refused(u32),
     Stays,
     Wins(Token, Counts),
     Joins(Token, Counts),
@@ -144,23 +139,7 @@ pub enum Settled {
 fn with_link(t: Token, link: u32) -> Token
     ensures { result ≡ with_link t link }
 {
-    Token {
-        cost: t.cost,
-        graph: t.graph,
-        link,
-        phone: t.phone,
-        seq: t.seq,
-    }
-}
-
-fn margin_of(setting: Setting) -> Margin
-    ensures { result ≡ margin_in setting }
-{
-    if setting.keeps {
-        Margin::Within(setting.margin)
-    } else {
-        Margin::Off
-    }
+    Token { link, ..t }
 }
 
 // The arriving token.
@@ -184,15 +163,13 @@ fn fill(
     counts: Counts,
     source: Token,
     a: Arrival,
-) -> Settled
+) -> Result<Settled, Reason>
     requires { RoomFor setting.cap counts.used records.old labels.old }
     ensures { FillIs records.old records.new labels.old labels.new setting counts source a result }
 {
-    let seq = std::num::wrapping_add_u32(counts.seq, 1);
-    match put_on(records, labels, setting, counts.used, source, a) {
-        PutOn::Refused(n) => Settled::Refused(n),
-        PutOn::On(link, used) => Settled::Wins(new_token(a, link, seq), Counts { used, seq }),
-    }
+    let seq = counts.seq.wrapping_add(1);
+    let on = put_on(records, labels, setting, counts.used, source, a)?;
+    Ok(Settled::Wins(new_token(a, on.link, seq), Counts { used: on.used, seq }))
 }
 
 // Better: the arc's token with the seq of the one that it beats, and that one kept if it is worth it.
@@ -206,46 +183,36 @@ fn beat(
     source: Token,
     a: Arrival,
     held: Token,
-) -> Settled
+) -> Result<Settled, Reason>
     requires { SettleAsks (store records.old labels.old gaps.old) setting counts source held }
     ensures { BeatIs (store records.old labels.old gaps.old) (store records.new labels.new gaps.new) setting counts gap source a held result }
 {
-    match put_on(records, labels, setting, counts.used, source, a) {
-        PutOn::Refused(n) => Settled::Refused(n),
-        PutOn::On(link, used) => {
-            let new = new_token(a, link, held.seq);
-            match joins::keep(
-                records,
-                labels,
-                gaps,
-                used,
-                setting.cap,
-                setting.frame,
-                margin_of(setting),
-                gap,
-                new,
-                held,
-                0,
-                0,
-            ) {
-                Keeping::Dropped => Settled::Wins(
-                    new,
-                    Counts {
-                        used,
-                        seq: counts.seq,
-                    },
-                ),
-                Keeping::Full => Settled::Refused(refusals::RECORDS_FULL),
-                Keeping::Joined(r) => Settled::Wins(
-                    with_link(new, r),
-                    Counts {
-                        used: r,
-                        seq: counts.seq,
-                    },
-                ),
-            }
-        }
-    }
+    let on = put_on(records, labels, setting, counts.used, source, a)?;
+    let new = new_token(a, on.link, held.seq);
+    let kept = joins::keep(
+        records,
+        labels,
+        gaps,
+        on.used,
+        setting.cap,
+        setting.frame,
+        setting.margin,
+        gap,
+        new,
+        held,
+        0,
+        0,
+    )?;
+    Ok(match kept {
+        None => Settled::Wins(
+            new,
+            Counts {
+                used: on.used,
+                ..counts
+            },
+        ),
+        Some(r) => Settled::Wins(with_link(new, r), Counts { used: r, ..counts }),
+    })
 }
 
 // Not better: the state's token stays, with the arrival kept if it is worth it.
@@ -259,36 +226,29 @@ fn lose(
     source: Token,
     a: Arrival,
     held: Token,
-) -> Settled
+) -> Result<Settled, Reason>
     requires { SettleAsks (store records.old labels.old gaps.old) setting counts source held }
     ensures { LoseIs (store records.old labels.old gaps.old) (store records.new labels.new gaps.new) setting counts gap source a held result }
 {
     let lost = new_token(a, source.link, 0);
-    let word = a.word;
-    match joins::keep(
+    let kept = joins::keep(
         records,
         labels,
         gaps,
         counts.used,
         setting.cap,
         setting.frame,
-        margin_of(setting),
+        setting.margin,
         gap,
         held,
         lost,
-        word,
+        a.word,
         starts(source, a),
-    ) {
-        Keeping::Dropped => Settled::Stays,
-        Keeping::Full => Settled::Refused(refusals::RECORDS_FULL),
-        Keeping::Joined(r) => Settled::Joins(
-            with_link(held, r),
-            Counts {
-                used: r,
-                seq: counts.seq,
-            },
-        ),
-    }
+    )?;
+    Ok(match kept {
+        None => Settled::Stays,
+        Some(r) => Settled::Joins(with_link(held, r), Counts { used: r, ..counts }),
+    })
 }
 
 // What comes of an arc whose total passed the cutoff.
@@ -303,13 +263,13 @@ fn settle(
     source: Token,
     a: Arrival,
     met: Meets,
-) -> Settled
+) -> Result<Settled, Reason>
     requires side_bound { (setting.side ≤ 1) × (a.target * 8 + 8 ≤ length tokens.now) × (a.target * 4 + 4 ≤ length sums.now) }
     requires settle_asks { SettleAsks (store records.old labels.old gaps.old) setting counts source (token_of (cell_at tokens.now sums.now (place_in setting.side a.target))) }
     ensures { SettledIs (store records.old labels.old gaps.old) (store records.new labels.new gaps.new) setting counts source a (cell_at tokens.now sums.now (place_in setting.side a.target)) met result }
 {
     match met {
-        Meets::CutOff => Settled::Stays,
+        Meets::CutOff => Ok(Settled::Stays),
         Meets::Vacant => fill(records, labels, setting, counts, source, a),
         Meets::Better(gap) => {
             let held = tokens::token_at(tokens, sums, setting.side, a.target);
@@ -325,10 +285,7 @@ fn settle(
 fn wants_record(setting: Setting, source: Token, a: Arrival) -> bool
     ensures { result ≡ wants setting source a }
 {
-    if is_link(source, a) {
-        return true;
-    }
-    setting.keeps
+    is_link(source, a) || setting.margin.is_some()
 }
 
 // Room for the records that an arc may want: a link, where it has a word or changes the phone, and a join, where a margin is set.
@@ -369,10 +326,9 @@ pub struct Going {
     pub link: u32,
 }
 
-// What became of the arc: refused, cut off, the state's token stays, it has the arc's, or the arc's is joined to it.
+// What became of the arc: cut off, the state's token stays, it has the arc's, or the arc's is joined to it.
 #[derive(Clone, Copy)]
 pub enum Arrived {
-    Refused(u32),
     Cut,
     Stays(Going),
     Wins(Going),
@@ -382,12 +338,7 @@ pub enum Arrived {
 fn is_cut(met: Meets) -> bool
     ensures { result ≡ is_cut_off met }
 {
-    match met {
-        Meets::CutOff => true,
-        Meets::Vacant => false,
-        Meets::Better(_) => false,
-        Meets::NotBetter(_) => false,
-    }
+    matches!(met, Meets::CutOff)
 }
 
 // One arriving arc, up to the lowered cutoff or the push: 12 for its total, 12 for a winner's graph sum, 13 for its record, 13 for its join.
@@ -402,16 +353,16 @@ pub fn arrive(
     going: Going,
     source: Token,
     a: Arrival,
-) -> Arrived
+) -> Result<Arrived, Reason>
     requires { Given setting (lent tokens.old sums.old records.old labels.old gaps.old) cutoff going source a }
     ensures { ArriveIs setting (lent tokens.old sums.old records.old labels.old gaps.old) (lent tokens.new sums.new records.new labels.new gaps.new) cutoff going source a result }
 {
     let met = meet(tokens, sums, setting.side, a.target, cutoff, a.total);
     if is_cut(met) {
-        return Arrived::Cut;
+        return Ok(Arrived::Cut);
     }
     if !real32::is_tame(a.total) {
-        return Arrived::Refused(refusals::SUM_TOO_LARGE);
+        return Err(Reason::SumTooLarge);
     }
     let made = make_room(
         tokens,
@@ -428,7 +379,7 @@ pub fn arrive(
         used: made.used,
         seq: going.seq,
     };
-    match settle(
+    let settled = settle(
         tokens,
         sums,
         records,
@@ -439,8 +390,8 @@ pub fn arrive(
         with_link(source, link),
         a,
         met,
-    ) {
-        Settled::Refused(n) => Arrived::Refused(n),
+    )?;
+    Ok(match settled {
         Settled::Stays => Arrived::Stays(Going {
             used: made.used,
             seq: going.seq,
@@ -462,5 +413,5 @@ pub fn arrive(
                 link,
             })
         }
-    }
+    })
 }

@@ -6,11 +6,11 @@ ghost use Rattle.lists.specs.Lists.{all};
 ghost use Rattle.real32.specs.Small.{tame};
 ghost use Rattle.model.specs.Passes.{fair, fair_margin};
 ghost use Rattle.checks.specs.Fit.{least_of, record_places, config_wrong, stores_wrong};
-ghost use Rattle.checks.specs.Frame.{frame_number};
+ghost use Rattle.checks.specs.Frame.{frame_number, told};
 ghost use Rattle.checks.specs.Margin.{asked};
 
 use cutoff::Config;
-use places::smaller;
+use refusals::Reason;
 
 // Not negative, finite and below 2^100.
 fn is_fair(x: f32) -> bool
@@ -19,7 +19,7 @@ fn is_fair(x: f32) -> bool
     0.0 <= x && real32::is_tame(x)
 }
 
-// 6, of the settings.
+// Of the settings: a beam that is not fair, or no more active states at most than at least.
 fn config_wrong(config: Config) -> bool
     ensures { result ≡ config_wrong config }
 {
@@ -66,27 +66,35 @@ pub struct Lengths {
 pub fn record_places(l: Lengths) -> usize
     ensures { result ≡ record_places l }
 {
-    smaller(l.records / 8, smaller(l.labels / 2, l.gaps / 2))
+    (l.records / 8).min(l.labels / 2).min(l.gaps / 2)
 }
 
 // The fewest places of a slice kept per state.
 fn fewest_per_state(l: Lengths) -> usize
     ensures { result ≡ least_of (l.tokens / 8) (l.sums / 4 ∷ l.eps ∷ l.scratch ∷ l.keys ∷ l.places ∷ l.own ∷ l.heads ∷ l.list ∷ []) }
 {
-    let listed = smaller(l.own, smaller(l.heads, l.list));
-    let worked = smaller(l.scratch, smaller(l.keys, smaller(l.places, listed)));
-    smaller(l.tokens / 8, smaller(l.sums / 4, smaller(l.eps, worked)))
+    (l.tokens / 8)
+        .min(l.sums / 4)
+        .min(l.eps)
+        .min(l.scratch)
+        .min(l.keys)
+        .min(l.places)
+        .min(l.own)
+        .min(l.heads)
+        .min(l.list)
 }
 
 // The fewest places of a slice kept per record.
 fn fewest_per_record(l: Lengths) -> usize
     ensures { result ≡ least_of (l.lists / 2) (l.route ∷ l.history_keys / 2 ∷ l.history_skips / 2 ∷ []) }
 {
-    let histories = smaller(l.history_keys / 2, l.history_skips / 2);
-    smaller(l.lists / 2, smaller(l.route, histories))
+    (l.lists / 2)
+        .min(l.route)
+        .min(l.history_keys / 2)
+        .min(l.history_skips / 2)
 }
 
-// 6, of the stores: a slice kept per state, per record or per kept reading with fewer places than these, or too many records.
+// Of the stores: a slice kept per state, per record or per kept reading with fewer places than these, or too many records.
 fn stores_wrong(l: Lengths, states: usize) -> bool
     ensures { result ≡ stores_wrong states l }
 {
@@ -101,10 +109,10 @@ fn stores_wrong(l: Lengths, states: usize) -> bool
         return true;
     }
     let kept = places::kept_places(l.kept_hashes, l.kept_links, l.kept_sums);
-    smaller(l.keys, smaller(l.order, l.list - states)) < kept
+    l.keys.min(l.order).min(l.list - states) < kept
 }
 
-// 6, of a fitting.
+// Of a fitting: its settings or its stores.
 pub fn fit_wrong(config: Config, l: Lengths, states: usize) -> bool
     ensures { result ≡ (config_wrong config || stores_wrong states l) }
 {
@@ -114,35 +122,30 @@ pub fn fit_wrong(config: Config, l: Lengths, states: usize) -> bool
     stores_wrong(l, states)
 }
 
-// 9: a log-likelihood that is not finite, or of magnitude 2^100 or more.
+// Whether each log-likelihood is finite and of magnitude below 2^100.
 fn all_tame(loglikes: &[f32]) -> bool
     ensures { result ≡ all tame loglikes.now }
 {
-    for i in 0..loglikes.len() {
-        if !real32::is_tame(loglikes[i]) {
-            return false;
-        }
-    }
-    true
+    loglikes.iter().all(|&x| real32::is_tame(x))
 }
 
-// 10, 8, 9 of a frame; 0 for none.
-pub fn check_frame(loglikes: &[f32], frames: u32, pdfs: u32) -> u32
-    ensures { result ≡ frame_number loglikes.now frames pdfs }
+// A frame after the last, then one of another length, then one that is not tame.
+pub fn check_frame(loglikes: &[f32], frames: u32, pdfs: u32) -> Result<(), Reason>
+    ensures { told result ≡ frame_number loglikes.now frames pdfs }
 {
     if refusals::MAX_FRAMES <= frames {
-        return refusals::TOO_MANY_FRAMES;
+        return Err(Reason::TooManyFrames);
     }
     if loglikes.len() != pdfs as usize {
-        return refusals::BAD_FRAME_LENGTH;
+        return Err(Reason::BadFrameLength);
     }
     if !all_tame(loglikes) {
-        return refusals::BAD_LOGLIKE;
+        return Err(Reason::BadLoglike);
     }
-    0
+    Ok(())
 }
 
-// 6: a margin that is negative, not finite, or 2^100 or more.
+// A margin that is negative, not finite, or 2^100 or more.
 pub fn margin_wrong(keeps: bool, margin: f32) -> bool
     ensures { result ≡ not (fair_margin (asked keeps margin)) }
 {

@@ -29,10 +29,8 @@ fn clear_marks(records: &mut [u32], used: u32)
     requires { used * 8 ≤ length records.old }
     ensures { Cleared records.old records.new used }
 {
-    let mut k = 0;
-    while k < used {
+    for k in 0..used {
         records[k as usize * 8 + 7] = 0;
-        k += 1;
     }
 }
 
@@ -52,12 +50,10 @@ fn mark_held(records: &mut [u32], tokens: &[u32], places: u32)
     requires { (places * 4 ≤ length tokens.now) × ((p : ℕ) → p < places → held_at tokens.now p * 8 ≤ length records.old + 8) }
     ensures { MarksPut (Held tokens.now places) records.old records.new }
 {
-    let mut p = 0;
-    while p < places {
+    for p in 0..places {
         if has_token(tokens, p) {
             mark(records, tokens[p as usize * 4]);
         }
-        p += 1;
     }
 }
 
@@ -80,10 +76,8 @@ fn spread(records: &mut [u32], used: u32)
     requires { (used * 8 ≤ length records.old) × ((k : ℕ) → k < used → prev_at records.old k ≤ k) × ((k : ℕ) → k < used → kept_at records.old k ≤ k) }
     ensures { MarksPut (Reach records.old used (Marked records.old)) records.old records.new }
 {
-    let mut k = used;
-    while 0 < k {
-        hand_on(records, k);
-        k -= 1;
+    for k in (0..used).rev() {
+        hand_on(records, k + 1);
     }
 }
 
@@ -120,28 +114,17 @@ fn move_numbers(records: &mut [u32], k: u32, n: u32, prev: u32, kept: u32)
     records[i + 7] = n + 1;
 }
 
-fn move_labels(labels: &mut [i32], k: u32, n: u32)
-    requires { (n ≤ k) × (k * 2 + 2 ≤ length labels.old) }
-    ensures { labels.new ≡ moved_pair (pos 0) labels.old k n }
+// The k-th pair of the labels or the gaps becomes the n-th.
+fn move_pair<T: Copy>(pairs: &mut [T], k: u32, n: u32)
+    requires { (n ≤ k) × (k * 2 + 2 ≤ length pairs.old) }
+    ensures { (d : T) → pairs.new ≡ moved_pair d pairs.old k n }
 {
     let i = k as usize * 2;
-    let word = labels[i];
-    let kept_word = labels[i + 1];
+    let first = pairs[i];
+    let second = pairs[i + 1];
     let j = n as usize * 2;
-    labels[j] = word;
-    labels[j + 1] = kept_word;
-}
-
-fn move_gaps(gaps: &mut [f32], k: u32, n: u32)
-    requires { (n ≤ k) × (k * 2 + 2 ≤ length gaps.old) }
-    ensures { gaps.new ≡ moved_pair nan gaps.old k n }
-{
-    let i = k as usize * 2;
-    let cost = gaps[i];
-    let graph = gaps[i + 1];
-    let j = n as usize * 2;
-    gaps[j] = cost;
-    gaps[j + 1] = graph;
+    pairs[j] = first;
+    pairs[j + 1] = second;
 }
 
 // Record number k + 1 moves down behind the first n, where it is marked: how many stay so far.
@@ -159,8 +142,8 @@ fn slide_one(records: &mut [u32], labels: &mut [i32], gaps: &mut [f32], k: u32, 
     let new_prev = new_number(records, prev);
     let new_kept = new_number(records, kept);
     move_numbers(records, k, n, new_prev, new_kept);
-    move_labels(labels, k, n);
-    move_gaps(gaps, k, n);
+    move_pair(labels, k, n);
+    move_pair(gaps, k, n);
     n + 1
 }
 
@@ -170,10 +153,8 @@ fn slide(records: &mut [u32], labels: &mut [i32], gaps: &mut [f32], used: u32) -
     ensures { Slid (store records.old labels.old gaps.old) (store records.new labels.new gaps.new) used result }
 {
     let mut n = 0;
-    let mut k = 0;
-    while k < used {
+    for k in 0..used {
         n = slide_one(records, labels, gaps, k, n);
-        k += 1;
     }
     n
 }
@@ -183,13 +164,11 @@ fn renumber(records: &[u32], tokens: &mut [u32], places: u32)
     requires { (places * 4 ≤ length tokens.old) × ((p : ℕ) → p < places → held_at tokens.old p * 8 ≤ length records.now + 8) }
     ensures { Renumbered records.now tokens.old tokens.new places }
 {
-    let mut place = 0;
-    while place < places {
+    for place in 0..places {
         if has_token(tokens, place) {
             let i = place as usize * 4;
             tokens[i] = new_number(records, tokens[i]);
         }
-        place += 1;
     }
 }
 
@@ -237,7 +216,7 @@ pub fn make_room(
     ensures { RoomMade (store records.old labels.old gaps.old) (store records.new labels.new gaps.new) tokens.old tokens.new places used result.used cap x result.x }
 {
     if used + 2 <= cap {
-        return Made { used: used, x: x };
+        return Made { used, x };
     }
     compact(records, labels, gaps, tokens, places, used, x)
 }

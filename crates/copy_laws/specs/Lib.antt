@@ -1,4 +1,4 @@
--- What holds of the whole-path copy after every list of calls. The claims are in `Claims` and proved in `Statement`; what leads there stands in this order.
+-- What holds of the whole-path copy after every list of calls. The claims are in `Claims`, and proved in proofs/Theorems; what leads there stands in this order.
 
 -- paths as document 01 has them, and tables of tokens
 pub mod Walks

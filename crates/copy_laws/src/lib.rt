@@ -1,2 +1,2 @@
-// What holds of the whole-path copy after every list of calls: all in specs/.
+// What holds of the whole-path copy after every list of calls: definitions in specs/, theorems in proofs/.
 #![tactic(auto)]

@@ -1,5 +1,5 @@
 -- The first look, over one state's part of the arc tables. Assumes nothing.
-use Rattle.std.specs.Prelude.{◌≡◌, Bool, true, false, ℤ, pos, length}
+use Rattle.std.specs.Prelude.{◌≡◌, Bool, true, false, ℤ, pos, length, Result, Ok, Err}
 use Rattle.std.proofs.Math.Path.{refl, ap}
 use Rattle.std.proofs.Common.{sym, ap₂, ◌∙◌, arith}
 use Prim.Native.Nat.{ℕ, zero, suc, ◌-◌, ◌<◌}
@@ -14,12 +14,12 @@ use Rattle.model.specs.Arrive.{emitting, lower, loglike}
 use Rattle.model.specs.Passes.{first_look}
 use Rattle.arcs.specs.declared.Pass.TheVariants.{Emitting}
 use Rattle.arcs.specs.Part.{Part, arc_in, by_label, HeardAt, lower_by, lowered}
-use Rattle.emitting.specs.declared.Looked.{Looked}
-use Rattle.emitting.specs.declared.Looked.TheVariants.{Refused, Next}
+use Rattle.refusals.specs.declared.Reason.{Reason}
+use Rattle.refusals.specs.Numbers.{number_of}
 
-abbrev pub outcome_of : Looked → Outcome Float
-outcome_of (Refused n) = refused n
-outcome_of (Next x) = ok x
+abbrev pub outcome_of : Result Float Reason → Outcome Float
+outcome_of (Err e) = refused (number_of e)
+outcome_of (Ok x) = ok x
 
 -- what the look asks of a part: its labels lead to log-likelihoods
 pub record LookAsks (il : List ℤ) (ws : List Float) (tp : List ℤ) (ls : List Float) : Type 0 where
@@ -59,18 +59,18 @@ module _ (il : List ℤ) (ws : List Float) (tp : List ℤ) (ls : List Float) (of
 
   -- ---- the loop
 
-  module _ (n i : ℕ) (next : Float) (r : Looked) (step : outcome_of r ≡ look_step i next) (so_far : look_from (length il) 0 ∞ ≡ look_from n i next) (more : 0 < n) where
+  module _ (n i : ℕ) (next : Float) (r : Result Float Reason) (step : outcome_of r ≡ look_step i next) (so_far : look_from (length il) 0 ∞ ≡ look_from n i next) (more : 0 < n) where
     left : n ≡ suc (n - 1)
     left = omega arith
 
     goes : look_from (length il) 0 ∞ ≡ (outcome_of r >>= λ x. look_from (n - 1) (suc i) x)
     goes = so_far ∙ ap (λ (k : ℕ). look_from k i next) left ∙ ap (λ (o : Outcome Float). o >>= λ x. look_from (n - 1) (suc i) x) (sym step)
 
-    pub look_on : (x : Float) → r ≡ Next x → look_from (length il) 0 ∞ ≡ look_from (n - 1) (suc i) x
-    look_on x e = goes ∙ ap (λ (r : Looked). outcome_of r >>= λ x. look_from (n - 1) (suc i) x) e
+    pub look_on : (x : Float) → r ≡ Ok x → look_from (length il) 0 ∞ ≡ look_from (n - 1) (suc i) x
+    look_on x e = goes ∙ ap (λ (r : Result Float Reason). outcome_of r >>= λ x. look_from (n - 1) (suc i) x) e
 
-    pub look_stops : (k : ℕ) → r ≡ Refused k → refused k ≡ look_from (length il) 0 ∞
-    look_stops k e = sym (goes ∙ ap (λ (r : Looked). outcome_of r >>= λ x. look_from (n - 1) (suc i) x) e)
+    pub look_stops : (k : Reason) → r ≡ Err k → outcome_of (Err k) ≡ look_from (length il) 0 ∞
+    look_stops k e = sym (goes ∙ ap (λ (r : Result Float Reason). outcome_of r >>= λ x. look_from (n - 1) (suc i) x) e)
 
 -- ---- the definition's look
 

@@ -1,5 +1,5 @@
 -- The pass, whole: the cutoffs, the first look, and all states. Assumes nothing.
-use Rattle.std.specs.Prelude.{◌≡◌, refl, ℕ, ◌+◌, ◌-◌, ◌^◌, ◌≤◌, ◌<◌, Bool, true, false, List, leb, ltb, ℤ, length, get_or, replicate, Float}
+use Rattle.std.specs.Prelude.{◌≡◌, refl, ℕ, ◌+◌, ◌-◌, ◌^◌, ◌≤◌, ◌<◌, Bool, true, false, List, leb, ltb, ℤ, length, get_or, replicate, Float, Result, Ok, Err}
 use Rattle.std.proofs.Common.{sym, ap₂, ◌∙◌, subst, arith, le-leb}
 use Rattle.std.proofs.Math.Path.{ap}
 use Rattle.std.proofs.Math.Option.{Option, none, some}
@@ -27,16 +27,13 @@ use Rattle.arrivals.specs.Stood.{Stood}
 use Rattle.arcs.specs.declared.Pass.{Pass}
 use Rattle.arcs.specs.declared.Pass.TheVariants.{Emitting}
 use Rattle.arcs.specs.declared.Work.{Work}
-use Rattle.arcs.specs.declared.Passed.{Passed}
-use Rattle.arcs.specs.declared.Passed.TheVariants.{Refused}
 use Rattle.arcs.specs.Part.{pass_of, heard_at}
 use Rattle.arcs.specs.Passed.{Ground, going_of}
 use Rattle.arcs.specs.State.{Tables, tables, TablesOf, slice, part_of, rises, inside, two_offsets, arcs_are, part_of_lem}
-use Rattle.emitting.specs.declared.Looked.{Looked}
-use Rattle.emitting.specs.declared.Looked.TheVariants.{Refused as NoNext, Next}
-use Rattle.emitting.specs.Look.{outcome_of, LookAsks, look_from, looks, Only12, only_12}
+use Rattle.emitting.specs.Look.{outcome_of, LookAsks, look_from, looks}
 use Rattle.arcs.specs.Ended.{EndedBy, ended_refused}
 use Rattle.emitting.specs.Emit.{EmitGiven, EmitStatesIs}
+use Rattle.refusals.specs.declared.Reason.{Reason}
 
 -- ---- the look at the best state
 
@@ -52,7 +49,7 @@ pub record LookGiven (os : List ℕ) (il : List ℤ) (ws : List Float) (tp : Lis
   pub of : TablesOf g (Emitting 0f 0f) (tables os il ol ws ns tp tf ls)
   pub best_is : BestIs n (best ts) c.best c.least
 
-abbrev pub LooksIs : (os : List ℕ) (il : List ℤ) (ws : List Float) (tp : List ℤ) (ls : List Float) (n : ℕ) → Cutoff → Looked → Type 0
+abbrev pub LooksIs : (os : List ℕ) (il : List ℤ) (ws : List Float) (tp : List ℤ) (ls : List Float) (n : ℕ) → Cutoff → Result Float Reason → Type 0
 LooksIs os il ws tp ls n c r = (G : LookGiven os il ws tp ls n c) → outcome_of r ≡ look G.g ls c.adaptive (best G.ts)
 
 -- one with no best state, and one with one
@@ -112,7 +109,7 @@ module _ {os : List ℕ} {il : List ℤ} {ws : List Float} {tp : List ℤ} {ls :
       pub look_asks : LookAsks (slice a e il) (slice a e ws) tp ls
       look_asks = rw (a-is, e-is) asks_there
 
-      pub looked : (r : Looked) → outcome_of r ≡ look_from (slice a e il) (slice a e ws) tp ls (neg c.least) c.adaptive c.least (length (slice a e il)) 0 ∞ → outcome_of r ≡ look G.g ls c.adaptive (best G.ts)
+      pub looked : (r : Result Float Reason) → outcome_of r ≡ look_from (slice a e il) (slice a e ws) tp ls (neg c.least) c.adaptive c.least (length (slice a e il)) 0 ∞ → outcome_of r ≡ look G.g ls c.adaptive (best G.ts)
       looked r q = (rw (a-is, e-is) at q) ∙ looks_there
 
 -- ---- the pass
@@ -133,7 +130,7 @@ pub record PassGiven (g : Setting) (m : Lent) (qs eps : List ℕ) (T : Tables) (
   pub seqs : seq + g.states < 2 ^ 32
   pub fine : Fine done
 
-abbrev pub EmittingIs : (g : Setting) → (m m' : Lent) → (qs qs' eps : List ℕ) → Tables → Config → (used seq : ℕ) → Passed → Type 0
+abbrev pub EmittingIs : (g : Setting) → (m m' : Lent) → (qs qs' eps : List ℕ) → Tables → Config → (used seq : ℕ) → Result Work Reason → Type 0
 EmittingIs g m m' qs qs' eps T c used seq r = (G : PassGiven g m qs eps T used seq) → EndedBy g m' qs' G.done (emitting_pass G.H (config_of c) T.arcs.loglikes G.done seq G.fresh) r
 
 abbrev pub offset_in : ℕ → Cutoff → Float
@@ -175,10 +172,6 @@ module _ {g : Setting} {m : Lent} {qs eps : List ℕ} {T : Tables} {used seq : �
         go none b = ap (λ (z : Bool). elim z as (λ z. Float) [ true ↦ 0f | false ↦ neg cut.least ]) (le-leb g.states cut.best (let e = b.0 in omega arith))
         go (some b) i = ap (λ (z : Bool). elim z as (λ z. Float) [ true ↦ 0f | false ↦ neg cut.least ]) (lt-leb g.states cut.best i.0) ∙ ap neg i.2
 
-    look_12 : (o : Option (ℕ × Token)) → Only12 (look G.H.graph T.arcs.loglikes cut.adaptive o)
-    look_12 none = tt
-    look_12 (some b) = only_12 G.H.graph T.arcs.loglikes (neg b.1.cost) cut.adaptive b.1.cost (arcs_of G.H.graph b.0) ∞
-
     module _ (off : Float) (off-is : off ≡ offset_in g.states cut) where
       abbrev P : Pass
       P = Emitting off cut.adaptive
@@ -200,13 +193,10 @@ module _ {g : Setting} {m : Lent} {qs eps : List ℕ} {T : Tables} {used seq : �
         kept : Shown G.h used tk m.sums (1 - g.side) g.states G.done
         kept = shown_uncleared clear G.ground.pass.side G.finished
 
-        pub look_refused : (n : ℕ) (r : Looked) → outcome_of r ≡ look G.H.graph T.arcs.loglikes cut.adaptive (best G.done) → r ≡ NoNext n → EndedBy g m₁ qs G.done (emitting_pass G.H (config_of c) T.arcs.loglikes G.done seq G.fresh) (Refused n)
+        pub look_refused : (n : Reason) (r : Result Float Reason) → outcome_of r ≡ look G.H.graph T.arcs.loglikes cut.adaptive (best G.done) → r ≡ Err n → EndedBy g m₁ qs G.done (emitting_pass G.H (config_of c) T.arcs.loglikes G.done seq G.fresh) (Err n)
         look_refused n r q e =
-            subst (λ (o : Outcome ModelWork). EndedBy g m₁ qs G.done o (Refused n)) (sym (pass_is ∙ ap (λ (o : Outcome Float). o >>= onward) (sym q ∙ ap outcome_of e)))
-            (ended_refused n (λ z. absurd (let k = twelve in omega arith)) (record { h = G.h; used = used; fits = G.fits; stands = G.stands; finished = kept }))
-          where
-            twelve : n ≡ 12
-            twelve = subst Only12 (sym q ∙ ap outcome_of e) (look_12 (best G.done))
+            subst (λ (o : Outcome ModelWork). EndedBy g m₁ qs G.done o (Err n)) (sym (pass_is ∙ ap (λ (o : Outcome Float). o >>= onward) (sym q ∙ ap outcome_of e)))
+            (ended_refused n (record { h = G.h; used = used; fits = G.fits; stands = G.stands; finished = kept }))
 
         empty : no_tokens G.H.graph ≡ replicate g.states none
         empty = ap (λ (n : ℕ). replicate n none) (sym G.ground.states)
@@ -251,7 +241,7 @@ module _ {g : Setting} {m : Lent} {qs eps : List ℕ} {T : Tables} {used seq : �
               };
             }
 
-        pub states_done : (next : Float) (m' : Lent) (qs' : List ℕ) (r : Looked) (r' : Passed) → outcome_of r ≡ look G.H.graph T.arcs.loglikes cut.adaptive (best G.done) → r ≡ Next next
+        pub states_done : (next : Float) (m' : Lent) (qs' : List ℕ) (r : Result Float Reason) (r' : Result Work Reason) → outcome_of r ≡ look G.H.graph T.arcs.loglikes cut.adaptive (best G.done) → r ≡ Ok next
             → EmitStatesIs g m₁ m' qs qs' eps P T cut.cutoff (work_at used seq next) r' → EndedBy g m' qs' G.done (emitting_pass G.H (config_of c) T.arcs.loglikes G.done seq G.fresh) r'
         states_done next m' qs' r r' q e S =
             subst (λ (o : Outcome ModelWork). EndedBy g m' qs' G.done o r') (sym (pass_is ∙ ap (λ (o : Outcome Float). o >>= onward) (sym q ∙ ap outcome_of e))) (S (states_given next))

@@ -9,19 +9,13 @@ ghost use Rattle.emitting.specs.Look.{LookAsks, look_step, look_from, outcome_of
 ghost use Rattle.emitting.specs.Emit.{EmitGiven, ActiveAt, EmitStateIs, EmitStatesIs};
 ghost use Rattle.emitting.specs.Whole.{LookGiven, LooksIs, offset_in, PassGiven, EmittingIs};
 
-use arcs::{Pass, Passed, Work};
+use arcs::{Pass, Work};
 use arrivals::Setting;
 use cutoff::{Config, Cutoff};
+use refusals::Reason;
 use tokens::Token;
 
-// The next cutoff that a look gives, or 12.
-#[derive(Clone, Copy)]
-pub enum Looked {
-    Refused(u32),
-    Next(f32),
-}
-
-// Arc i in the first look: another order of sums than the total.
+// The next cutoff after arc i in the first look: another order of sums than the total.
 fn look_at(
     ilabels: &[i32],
     weights: &[f32],
@@ -32,19 +26,19 @@ fn look_at(
     cost: f32,
     i: usize,
     next: f32,
-) -> Looked
+) -> Result<f32, Reason>
     requires { LookAsks ilabels.now weights.now tid2pdf.now loglikes.now × (i < length ilabels.now) }
     ensures { outcome_of result ≡ look_step ilabels.now weights.now tid2pdf.now loglikes.now offset adaptive cost i next }
 {
     let pass = Pass::Emitting(offset, adaptive);
     if !arcs::takes(ilabels, pass, i) {
-        return Looked::Next(next);
+        return Ok(next);
     }
     let total = weights[i] + offset - arcs::loglike(ilabels, tid2pdf, loglikes, i) + cost;
     if !real32::is_tame(total) {
-        return Looked::Refused(refusals::SUM_TOO_LARGE);
+        return Err(Reason::SumTooLarge);
     }
-    Looked::Next(arcs::lower(pass, total, next))
+    Ok(arcs::lower(pass, total, next))
 }
 
 // The first look: the best state's emitting arcs only tighten the next cutoff.
@@ -56,20 +50,17 @@ fn first_look(
     offset: f32,
     adaptive: f32,
     cost: f32,
-) -> Looked
+) -> Result<f32, Reason>
     requires { LookAsks ilabels.now weights.now tid2pdf.now loglikes.now }
     ensures { outcome_of result ≡ look_from ilabels.now weights.now tid2pdf.now loglikes.now offset adaptive cost (length ilabels.now) 0 ∞ }
 {
     let mut next = real32::infinity();
     for i in 0..ilabels.len() {
-        match look_at(
+        next = look_at(
             ilabels, weights, tid2pdf, loglikes, offset, adaptive, cost, i, next,
-        ) {
-            Looked::Refused(n) => return Looked::Refused(n),
-            Looked::Next(x) => next = x,
-        }
+        )?;
     }
-    Looked::Next(next)
+    Ok(next)
 }
 
 // The look at the best state's arcs, if there is one.
@@ -81,13 +72,13 @@ fn look(
     loglikes: &[f32],
     states: u32,
     cut: Cutoff,
-) -> Looked
+) -> Result<f32, Reason>
     requires { LookGiven offsets.now ilabels.now weights.now tid2pdf.now loglikes.now states cut }
     ensures { LooksIs offsets.now ilabels.now weights.now tid2pdf.now loglikes.now states cut result }
 {
     let s = cut.best;
     if states <= s {
-        return Looked::Next(real32::infinity());
+        return Ok(real32::infinity());
     }
     let a = fst::first_arc(offsets, s as usize);
     let e = fst::first_arc(offsets, s as usize + 1);
@@ -124,20 +115,17 @@ fn emit_state(
     cut: f32,
     w: Work,
     s: u32,
-) -> Passed
+) -> Result<Work, Reason>
     requires { EmitGiven setting (lent tokens.old sums.old records.old labels.old gaps.old) queue.old eps.now pass (tables offsets.now ilabels.now olabels.now weights.now nextstates.now tid2pdf.now tid2phone.now loglikes.now) w × ActiveAt setting (lent tokens.old sums.old records.old labels.old gaps.old) s }
     ensures { EmitStateIs setting (lent tokens.old sums.old records.old labels.old gaps.old) (lent tokens.new sums.new records.new labels.new gaps.new) queue.old queue.new eps.now pass (tables offsets.now ilabels.now olabels.now weights.now nextstates.now tid2pdf.now tid2phone.now loglikes.now) cut w s result }
 {
     let source = tokens::token_at(tokens, sums, 1 - setting.side, s);
     if cut < source.cost {
-        return Passed::On(w);
+        return Ok(w);
     }
     let taken = Work {
-        used: w.used,
-        seq: w.seq,
         link: source.link,
-        cutoff: w.cutoff,
-        queued: w.queued,
+        ..w
     };
     arcs::arrive_state(
         tokens, sums, records, labels, gaps, queue, eps, offsets, ilabels, olabels, weights,
@@ -166,7 +154,7 @@ fn emit_states(
     pass: Pass,
     cut: f32,
     before: Work,
-) -> Passed
+) -> Result<Work, Reason>
     requires { EmitGiven setting (lent tokens.old sums.old records.old labels.old gaps.old) queue.old eps.now pass (tables offsets.now ilabels.now olabels.now weights.now nextstates.now tid2pdf.now tid2phone.now loglikes.now) before }
     ensures { EmitStatesIs setting (lent tokens.old sums.old records.old labels.old gaps.old) (lent tokens.new sums.new records.new labels.new gaps.new) queue.old queue.new eps.now pass (tables offsets.now ilabels.now olabels.now weights.now nextstates.now tid2pdf.now tid2phone.now loglikes.now) cut before result }
 {
@@ -175,16 +163,13 @@ fn emit_states(
     let mut w = before;
     let mut s = tokens::next_active(tokens, side, 0, states);
     while s < states {
-        match emit_state(
+        w = emit_state(
             tokens, sums, records, labels, gaps, queue, eps, offsets, ilabels, olabels, weights,
             nextstates, tid2pdf, tid2phone, loglikes, setting, pass, cut, w, s,
-        ) {
-            Passed::Refused(n) => return Passed::Refused(n),
-            Passed::On(next) => w = next,
-        }
+        )?;
         s = tokens::next_active(tokens, side, s + 1, states);
     }
-    Passed::On(w)
+    Ok(w)
 }
 
 // The cost offset: minus the best cost, 0 where there is no token.
@@ -216,28 +201,24 @@ pub fn emitting(
     config: Config,
     used: u32,
     seq: u32,
-) -> Passed
+) -> Result<Work, Reason>
     requires { PassGiven setting (lent tokens.old sums.old records.old labels.old gaps.old) queue.old eps.now (tables offsets.now ilabels.now olabels.now weights.now nextstates.now tid2pdf.now tid2phone.now loglikes.now) used seq × (setting.states ≤ length scratch.old) }
     ensures { EmittingIs setting (lent tokens.old sums.old records.old labels.old gaps.old) (lent tokens.new sums.new records.new labels.new gaps.new) queue.old queue.new eps.now (tables offsets.now ilabels.now olabels.now weights.now nextstates.now tid2pdf.now tid2phone.now loglikes.now) config used seq result }
 {
     let states = setting.states;
     let cut = cutoff::get_cutoff(config, tokens, sums, 1 - setting.side, states, scratch);
     tokens::clear(tokens, setting.side, states);
-    match look(offsets, ilabels, weights, tid2pdf, loglikes, states, cut) {
-        Looked::Refused(n) => Passed::Refused(n),
-        Looked::Next(next) => {
-            let pass = Pass::Emitting(offset_of(states, cut), cut.adaptive);
-            let w = Work {
-                used,
-                seq,
-                link: 0,
-                cutoff: next,
-                queued: 0,
-            };
-            emit_states(
-                tokens, sums, records, labels, gaps, queue, eps, offsets, ilabels, olabels,
-                weights, nextstates, tid2pdf, tid2phone, loglikes, setting, pass, cut.cutoff, w,
-            )
-        }
-    }
+    let next = look(offsets, ilabels, weights, tid2pdf, loglikes, states, cut)?;
+    let pass = Pass::Emitting(offset_of(states, cut), cut.adaptive);
+    let w = Work {
+        used,
+        seq,
+        link: 0,
+        cutoff: next,
+        queued: 0,
+    };
+    emit_states(
+        tokens, sums, records, labels, gaps, queue, eps, offsets, ilabels, olabels, weights,
+        nextstates, tid2pdf, tid2phone, loglikes, setting, pass, cut.cutoff, w,
+    )
 }

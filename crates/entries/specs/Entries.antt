@@ -1,5 +1,5 @@
 -- The layout of the entries, and what putting one leaves.
-use Rattle.std.specs.Prelude.{◌≡◌, ℕ, zero, suc, ◌+◌, ◌-◌, ◌*◌, ◌<◌, ◌≤◌, Bool, true, false, ◌&&◌, List, map, length, ◌==◌, ◌≢◌, slice_index, slice_index_or, Float}
+use Rattle.std.specs.Prelude.{◌≡◌, ℕ, zero, suc, ◌+◌, ◌-◌, ◌*◌, ◌<◌, ◌≤◌, Bool, true, false, ◌&&◌, List, map, length, ◌==◌, ◌≢◌, slice_index, slice_index_or, Float, Option, Some, None}
 use Rattle.std.specs.Float.{nan}
 use Rattle.lists.specs.Lists.{any, range}
 use Rattle.model.specs.Basics.{0f}
@@ -45,7 +45,7 @@ pub record EntryPut (hs ns : List ℕ) (xs : List Float) (hs' ns' : List ℕ) (x
   pub others : (j : ℕ) → (j ≢ i) → entry_in hs' ns' xs' j ≡ entry_in hs ns xs j
 
 -- its words are there already; the places are full; or it is put
-pub data PutNew (hs ns : List ℕ) (xs : List Float) (hs' ns' : List ℕ) (xs' : List Float) (from to places : ℕ) (b : Entry) : ℕ → Type 0 where
-  was_present : any (same_key b) (entries hs ns xs from (to - from)) ≡ true → hs' ≡ hs → ns' ≡ ns → xs' ≡ xs → PutNew hs ns xs hs' ns' xs' from to places b to
-  was_full : any (same_key b) (entries hs ns xs from (to - from)) ≡ false → places < to → hs' ≡ hs → ns' ≡ ns → xs' ≡ xs → PutNew hs ns xs hs' ns' xs' from to places b 0
-  was_put : any (same_key b) (entries hs ns xs from (to - from)) ≡ false → to ≤ places → EntryPut hs ns xs hs' ns' xs' (to - 1) b → PutNew hs ns xs hs' ns' xs' from to places b (to + 1)
+pub data PutNew (hs ns : List ℕ) (xs : List Float) (hs' ns' : List ℕ) (xs' : List Float) (from to places : ℕ) (b : Entry) : Option ℕ → Type 0 where
+  was_present : any (same_key b) (entries hs ns xs from (to - from)) ≡ true → hs' ≡ hs → ns' ≡ ns → xs' ≡ xs → PutNew hs ns xs hs' ns' xs' from to places b (Some to)
+  was_full : any (same_key b) (entries hs ns xs from (to - from)) ≡ false → places < to → hs' ≡ hs → ns' ≡ ns → xs' ≡ xs → PutNew hs ns xs hs' ns' xs' from to places b None
+  was_put : any (same_key b) (entries hs ns xs from (to - from)) ≡ false → to ≤ places → EntryPut hs ns xs hs' ns' xs' (to - 1) b → PutNew hs ns xs hs' ns' xs' from to places b (Some (to + 1))

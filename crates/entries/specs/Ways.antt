@@ -1,5 +1,5 @@
 -- The paths of two ways down from a join, and the list that is made of them.
-use Rattle.std.specs.Prelude.{◌≡◌, ℕ, ◌+◌, ◌-◌, ◌*◌, ◌%◌, ◌^◌, ◌<◌, ◌≤◌, Bool, true, false, cond, not, ◌&&◌, ◌||◌, T, ◌⊎◌, List, [], ◌++◌, map, length, take, ◌==◌, ◌≢◌, slice_index_or, Float}
+use Rattle.std.specs.Prelude.{◌≡◌, ℕ, ◌+◌, ◌-◌, ◌*◌, ◌%◌, ◌^◌, ◌<◌, ◌≤◌, Bool, true, false, cond, not, ◌&&◌, ◌||◌, T, ◌⊎◌, List, [], ◌++◌, map, length, take, ◌==◌, slice_index_or, Float, Option, Some, None, IfSome}
 use Rattle.lists.specs.Lists.{keep_if, sort_by, firsts, range}
 use Rattle.model.specs.Basics.{◌≺◌, ◌≼◌, ◌⊕◌}
 use Rattle.entries.specs.declared.Entry.{Entry}
@@ -70,9 +70,9 @@ pub record FillAsks (hs ns : List ℕ) (xs : List Float) (own kept : Way) (from 
   pub kept_before : kept.first + kept.count ≤ from
 
 -- The entries before `from` are as they were. Where costs rise along both ways the list stands at the entries from `from` on, or it has no place.
-pub record FillIs (hs ns : List ℕ) (xs : List Float) (hs' ns' : List ℕ) (xs' : List Float) (own kept : Way) (margin : Float) (cap from places r : ℕ) : Type 0 where
+pub record FillIs (hs ns : List ℕ) (xs : List Float) (hs' ns' : List ℕ) (xs' : List Float) (own kept : Way) (margin : Float) (cap from places : ℕ) (r : Option ℕ) : Type 0 where
   pub before : (e : ℕ) → e < from → entry_at hs' ns' xs' e ≡ entry_at hs ns xs e
-  pub fits : r ≤ places + 1
-  pub on : (r ≢ 0) → from ≤ r
+  pub fits : IfSome r (λ to. to ≤ places + 1)
+  pub on : IfSome r (λ to. from ≤ to)
   pub is : let es = list_of margin cap (way_entries hs ns xs own) (way_entries hs ns xs kept) in
-      Rising (way_entries hs ns xs own) → Rising (way_entries hs ns xs kept) → ((r ≡ 0) × (places + 1 < from + length es)) ⊎ ((r ≡ from + length es) × (entries hs' ns' xs' from (length es) ≡ es))
+      Rising (way_entries hs ns xs own) → Rising (way_entries hs ns xs kept) → ((r ≡ None) × (places + 1 < from + length es)) ⊎ ((r ≡ Some (from + length es)) × (entries hs' ns' xs' from (length es) ≡ es))

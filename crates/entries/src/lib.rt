@@ -80,7 +80,7 @@ fn by_way(hashes: &[u64], nexts: &[u32], sums: &[f32], w: Way, i: u32) -> Entry
     let e = w.first + i;
     let b = entry_at(hashes, nexts, sums, e);
     Entry {
-        hash: std::num::wrapping_add_u64(wrapping_mul(b.hash, w.shift), w.hash),
+        hash: wrapping_mul(b.hash, w.shift).wrapping_add(w.hash),
         len: b.len + w.len,
         cost: w.cost + b.cost,
         graph: w.graph + b.graph,
@@ -181,7 +181,7 @@ fn moved(i: u32, on: bool) -> u32
     if on { i + 1 } else { i }
 }
 
-// Puts an entry at `to`, unless one from `from` on has its words: the next free entry, or 0 where the places are full.
+// Puts an entry at `to`, unless one from `from` on has its words: the next free entry, or none where the places are full.
 fn put_new(
     hashes: &mut [u64],
     nexts: &mut [u32],
@@ -190,22 +190,22 @@ fn put_new(
     to: u32,
     places: u32,
     b: Entry,
-) -> u32
+) -> Option<u32>
     requires { (0 < from) × (from ≤ to) × (to ≤ places + 1) × (places < 0xffff_fffe) × (Room hashes.old nexts.old sums.old places) }
     ensures { PutNew hashes.old nexts.old sums.old hashes.new nexts.new sums.new from to places b result }
 {
     if has_key(hashes, nexts, from, to, b) {
-        return to;
+        return Some(to);
     }
     if places < to {
-        return 0;
+        return None;
     }
     put_entry(hashes, nexts, sums, to, b);
-    to + 1
+    Some(to + 1)
 }
 
 // The list of a join, at the entries from `from` on: of the paths of both ways that the margin does not cut the `cap` cheapest, one for each word list, and on a tie the own
-// one. Costs do not fall along a way, so the two are merged. Gives the next free entry, or 0 where the places are full.
+// one. Costs do not fall along a way, so the two are merged. Gives the next free entry, or none where the places are full.
 pub fn fill_list(
     hashes: &mut [u64],
     nexts: &mut [u32],
@@ -216,7 +216,7 @@ pub fn fill_list(
     cap: u32,
     from: u32,
     places: u32,
-) -> u32
+) -> Option<u32>
     requires { FillAsks hashes.old nexts.old sums.old own kept from places }
     ensures { FillIs hashes.old nexts.old sums.old hashes.new nexts.new sums.new own kept margin cap from places result }
 {
@@ -225,19 +225,16 @@ pub fn fill_list(
     let mut i: u32 = 0;
     let mut j: u32 = 0;
     let mut to = from;
+    // which of i and j moves on is what the costs say: no index is counted
     while i + j < n + m {
         if to - from == cap {
-            return to;
+            return Some(to);
         }
         let takes_own = own_next(hashes, nexts, sums, own, kept, i, n, j, m);
         let b = pick(hashes, nexts, sums, own, kept, i, j, takes_own);
-        let next = put_new(hashes, nexts, sums, from, to, places, b);
-        if next == 0 {
-            return 0;
-        }
-        to = next;
+        to = put_new(hashes, nexts, sums, from, to, places, b)?;
         i = moved(i, takes_own);
         j = moved(j, !takes_own);
     }
-    to
+    Some(to)
 }

@@ -3,7 +3,7 @@ use mathlib.Core.Path.{◌≡◌, refl, sym, ◌∙◌, ap, ap₂}
 use mathlib.Core.Bool.{Bool, true, false, ◌&&◌}
 use mathlib.Core.List.{List, [], ◌∷◌, map}
 use mathlib.Core.Option.{Option, none, some}
-use Prim.Native.Nat.{ℕ, zero, suc, ◌+◌, ◌-◌, ◌<◌}
+use Prim.Native.Nat.{ℕ, suc, ◌+◌, ◌-◌, ◌<◌}
 use native.Mathlib.Omega.{arith}
 use native.Mathlib.Numerals.{add-one}
 use lib.IntN.{ℤ, pos}
@@ -14,26 +14,26 @@ use Rattle.lists.specs.Lists.{range}
 use Rattle.model.specs.Basics.{0f, ltℤ, first_of, Place, nowhere, at_arc, Refusal}
 use Rattle.model.specs.Graph.{Graph, Arc, states, emits, phone_of, label_wrong, weight_wrong, arc_at, refuse_at, check_arc, check_arcs}
 use Rattle.refusals.specs.declared.Place.TheVariants.{AtArc}
-use Rattle.fst.specs.declared.Found.TheVariants.{Nothing, Fault}
+use Rattle.std.specs.Prelude.{Ok, Err}
 use Rattle.lists.specs.Members.{get_d_any}
 use Rattle.fst.proofs.Walk.{refuses, passes}
-use Rattle.fst.specs.Answer.{tables_of, without_words, arc_of, number_of, found_of, check_label}
+use Rattle.fst.specs.Answer.{tables_of, without_words, arc_of, found_of, check_label}
 
 -- the tests of one arc: target, label, phone, weight
 abbrev four : Place → (b c d e : Bool) → Option Refusal
 four p b c d e = first_of (refuse_at p 2 b ∷ refuse_at p 3 c ∷ refuse_at p 4 d ∷ refuse_at p 5 e ∷ [])
 
-abbrev two : (c d : Bool) → ℕ
-two c d = number_of (first_of (refuse_at nowhere 3 c ∷ refuse_at nowhere 4 d ∷ []))
+abbrev two : (c d : Bool) → Option Refusal
+two c d = first_of (refuse_at nowhere 3 c ∷ refuse_at nowhere 4 d ∷ [])
 
-label_refuses : (c d e : Bool) → (two c d ≡ 0 → ⊥) → two c d ≡ number_of (four nowhere false c d e)
-label_refuses true d e h = refl
-label_refuses false true e h = refl
-label_refuses false false e h = absurd (h refl)
+label_refuses : (c d e : Bool) (r : Refusal) → some r ≡ two c d → some r ≡ four nowhere false c d e
+label_refuses true d e r h = h
+label_refuses false true e r h = h
+label_refuses false false e r h = let z : ◌≡◌ {A = ℕ} 0 1 = cc in absurd (omega arith)
 
-label_passes : (c d e : Bool) → two c d ≡ 0 → number_of (four nowhere false c d e) ≡ number_of (refuse_at nowhere 5 e)
-label_passes true d e h = absurd (omega arith)
-label_passes false true e h = absurd (omega arith)
+label_passes : (c d e : Bool) → none ≡ two c d → refuse_at nowhere 5 e ≡ four nowhere false c d e
+label_passes true d e h = let z : ◌≡◌ {A = ℕ} 0 1 = cc in absurd (omega arith)
+label_passes false true e h = let z : ◌≡◌ {A = ℕ} 0 1 = cc in absurd (omega arith)
 label_passes false false true h = refl
 label_passes false false false h = refl
 
@@ -44,24 +44,24 @@ module _ (f : List Float) (p h : List ℤ) (n : ℕ) (z : ℤ) (w : Float) (t : 
   abbrev a : Arc
   a = arc_of z w t
 
-  pub no_target : leb (length f) t ≡ true → 2 ≡ number_of (check_arc g nowhere a)
+  pub no_target : leb (length f) t ≡ true → some (record { number = 2; place = nowhere }) ≡ check_arc g nowhere a
   unfolding check_arc
   no_target e = simp e
 
-  module _ (e : leb (length f) t ≡ false) (k : ℕ) (l : k ≡ number_of (check_label (tables_of [] p h n) (arc_of z 0f 0))) where
-    pub by_label_lem : (k ≡ 0 → ⊥) → k ≡ number_of (check_arc g nowhere a)
+  module _ (e : leb (length f) t ≡ false) where
+    pub by_label_lem : (r : Refusal) → some r ≡ check_label (tables_of [] p h n) (arc_of z 0f 0) → some r ≡ check_arc g nowhere a
     unfolding check_arc label_wrong
-    by_label_lem m =
+    by_label_lem r l =
         let c = label_wrong g a in
         let d = emits a && ltℤ (phone_of g a) (pos 1) in
-        l ∙ label_refuses c d (weight_wrong a) (λ q. m (l ∙ q)) ∙ ap (λ (b : Bool). number_of (four nowhere b c d (weight_wrong a))) (sym e)
+        label_refuses c d (weight_wrong a) r l ∙ ap (λ (b : Bool). four nowhere b c d (weight_wrong a)) (sym e)
 
-    pub by_weight : k ≡ 0 → (v : Bool) → v ≡ weight_wrong (arc_of z w 0) → number_of (refuse_at nowhere 5 v) ≡ number_of (check_arc g nowhere a)
+    pub by_weight : none ≡ check_label (tables_of [] p h n) (arc_of z 0f 0) → (v : Bool) → v ≡ weight_wrong (arc_of z w 0) → refuse_at nowhere 5 v ≡ check_arc g nowhere a
     unfolding check_arc label_wrong weight_wrong
-    by_weight m v q =
+    by_weight l v q =
         let c = label_wrong g a in
         let d = emits a && ltℤ (phone_of g a) (pos 1) in
-        ap (λ (b : Bool). number_of (refuse_at nowhere 5 b)) q ∙ sym (label_passes c d (weight_wrong a) (sym l ∙ m)) ∙ ap (λ (b : Bool). number_of (four nowhere b c d (weight_wrong a))) (sym e)
+        ap (refuse_at nowhere 5) q ∙ label_passes c d (weight_wrong a) l ∙ ap (λ (b : Bool). four nowhere b c d (weight_wrong a)) (sym e)
 
 -- the check reads of a graph its tables, and of an arc its input label, its weight and its target
 pub reads : (g : Graph) (q : Place) (x : Arc) → check_arc g q x ≡ check_arc (tables_of g.finals g.tid2pdf g.tid2phone g.pdfs) q (arc_of x.ilabel x.weight x.target)
@@ -69,18 +69,18 @@ unfolding check_arc label_wrong weight_wrong
 reads g q x = refl
 
 -- the place does not count in the tests
-abbrev pub fault_at : Place → ℕ → Option Refusal
-fault_at p zero = none
-fault_at p (suc k) = some (record { number = suc k; place = p })
+abbrev pub moved : Place → Option Refusal → Option Refusal
+moved p none = none
+moved p (some r) = some (record { number = r.number; place = p })
 
-four_at : (p : Place) (b c d e : Bool) → four p b c d e ≡ fault_at p (number_of (four nowhere b c d e))
+four_at : (p : Place) (b c d e : Bool) → four p b c d e ≡ moved p (four nowhere b c d e)
 four_at p true c d e = refl
 four_at p false true d e = refl
 four_at p false false true e = refl
 four_at p false false false true = refl
 four_at p false false false false = refl
 
-pub check_at : (g : Graph) (p : Place) (a : Arc) → check_arc g p a ≡ fault_at p (number_of (check_arc g nowhere a))
+pub check_at : (g : Graph) (p : Place) (a : Arc) → check_arc g p a ≡ moved p (check_arc g nowhere a)
 unfolding check_arc
 check_at g p a = four_at p (leb (states g) a.target) (label_wrong g a) (emits a && ltℤ (phone_of g a) (pos 1)) (weight_wrong a)
 
@@ -96,7 +96,7 @@ pub at_first : (g : Graph) (s n : ℕ) → whole g s n ≡ ahead g s n 0
 at_first g s n = let e : n ≡ n - 0 = omega arith in ap (λ (k : ℕ). check_arcs g s 0 (map (arc_at g s) (range 0 k))) e
 
 module _ (g : Graph) (s n i : ℕ) (so_far : whole g s n ≡ ahead g s n i) where
-  pub all_sound : i ≡ n → Nothing ≡ found_of (whole g s n)
+  pub all_sound : i ≡ n → Ok tt ≡ found_of (whole g s n)
   all_sound h = ap found_of (sym (so_far ∙ ap (λ (k : ℕ). check_arcs g s i (map (arc_at g s) (range i k))) left))
     where
       left : n - i ≡ 0
@@ -112,19 +112,15 @@ module _ (g : Graph) (s n i : ℕ) (so_far : whole g s n ≡ ahead g s n i) wher
         left : n - i ≡ suc (n - suc i)
         left = omega arith
 
-    module _ (k : ℕ) (e : k ≡ number_of (check_arc g nowhere (arc_at g s i))) where
-      found : test ≡ fault_at (at_arc s i) k
-      found = check_at g (at_arc s i) (arc_at g s i) ∙ ap (fault_at (at_arc s i)) (sym e)
+    module _ (o : Option Refusal) (e : o ≡ check_arc g nowhere (arc_at g s i)) where
+      found : test ≡ moved (at_arc s i) o
+      found = check_at g (at_arc s i) (arc_at g s i) ∙ ap (moved (at_arc s i)) (sym e)
 
-      pub arc_refused : (k ≡ 0 → ⊥) → Fault (record { number = k; place = AtArc s i }) ≡ found_of (whole g s n)
-      arc_refused z = ap found_of (sym (turn ∙ refuses test (ahead g s n (suc i)) (record { number = k; place = at_arc s i }) (found ∙ some_number k z)))
-        where
-          some_number : (k : ℕ) → (k ≡ 0 → ⊥) → fault_at (at_arc s i) k ≡ some (record { number = k; place = at_arc s i })
-          some_number zero z = absurd (z refl)
-          some_number (suc k) z = refl
+      pub arc_refused : (k : ℕ) → some (record { number = k; place = nowhere }) ≡ o → Err (record { number = k; place = AtArc s i }) ≡ found_of (whole g s n)
+      arc_refused k z = ap found_of (sym (turn ∙ refuses test (ahead g s n (suc i)) (record { number = k; place = at_arc s i }) (found ∙ ap (moved (at_arc s i)) (sym z))))
 
-      pub arc_passed : k ≡ 0 → whole g s n ≡ ahead g s n (i + 1)
-      arc_passed z = rw add-one (turn ∙ passes test (ahead g s n (suc i)) (found ∙ ap (fault_at (at_arc s i)) z))
+      pub arc_passed : none ≡ o → whole g s n ≡ ahead g s n (i + 1)
+      arc_passed z = rw add-one (turn ∙ passes test (ahead g s n (suc i)) (found ∙ ap (moved (at_arc s i)) (sym z)))
 
 -- the arc that the code reads is the definition's
 pub arc_read : (il : List ℤ) (ws : List Float) (ns : List ℕ) (f : List Float) (p h : List ℤ) (n s i : ℕ) (y : ℤ) → y ≡ get_or il i (pos 0) → i < length ws

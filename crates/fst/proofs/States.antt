@@ -14,7 +14,7 @@ use Rattle.lists.specs.Lists.{range}
 use Rattle.lists.specs.Parts.{part_length, part_at}
 use Rattle.model.specs.Basics.{0f, first_of, Place, at_arc, Refusal}
 use Rattle.model.specs.Graph.{Graph, arc_at, check_arc, check_arcs, check_states}
-use Rattle.fst.specs.declared.Found.TheVariants.{Nothing, Fault}
+use Rattle.std.specs.Prelude.{Ok, Err}
 use Rattle.refusals.specs.declared.Refusal.{Refusal as R}
 use Rattle.fst.specs.Answer.{graph_of, tables_of, without_words, arc_of, found_of, check_part}
 use Rattle.fst.proofs.Arcs.{reads}
@@ -57,7 +57,7 @@ module _ (os : List ℕ) (il : List ℤ) (ws : List Float) (ns : List ℕ) (fs :
 -- ---- the loop over the states, which stands at state s
 
 module _ (g : Graph) (xs : List ℕ) (s : ℕ) (so_far : check_states g 0 xs ≡ check_states g s (drop s xs)) where
-  pub all_states_lem : s + 1 ≡ length xs → Nothing ≡ found_of (check_states g 0 xs)
+  pub all_states_lem : s + 1 ≡ length xs → Ok tt ≡ found_of (check_states g 0 xs)
   all_states_lem h = ap found_of (sym (so_far ∙ ap (check_states g s) last))
     where
       last : drop s xs ≡ get_or xs s 0 ∷ []
@@ -75,12 +75,12 @@ module _ (g : Graph) (xs : List ℕ) (s : ℕ) (so_far : check_states g 0 xs ≡
             so_far ∙ ap (check_states g s) (drop-cons xs s 0 (omega arith) ∙ ap (λ (ys : List ℕ). get_or xs s 0 ∷ ys) next) ∙
             ap (λ (ys : List ℕ). first_of (check_arcs g s 0 (map (arc_at g s) (range (get_or xs s 0) (get_or xs (suc s) 0 - get_or xs s 0))) ∷ check_states g (suc s) ys ∷ [])) (sym next)
 
-    pub state_refused : (r : R) → Fault r ≡ found_of (arcs g xs s) → Fault r ≡ found_of (check_states g 0 xs)
+    pub state_refused : (r : R) → Err r ≡ found_of (arcs g xs s) → Err r ≡ found_of (check_states g 0 xs)
     state_refused r e =
         let f = the_fault (arcs g xs s) r e in
-        ap Fault f.2 ∙ ap found_of (sym (turn ∙ refuses (arcs g xs s) (check_states g (s + 1) (drop (s + 1) xs)) f.0 f.1))
+        ap Err f.2 ∙ ap found_of (sym (turn ∙ refuses (arcs g xs s) (check_states g (s + 1) (drop (s + 1) xs)) f.0 f.1))
 
-    pub state_passed : Nothing ≡ found_of (arcs g xs s) → check_states g 0 xs ≡ check_states g (s + 1) (drop (s + 1) xs)
+    pub state_passed : Ok tt ≡ found_of (arcs g xs s) → check_states g 0 xs ≡ check_states g (s + 1) (drop (s + 1) xs)
     state_passed e = turn ∙ passes (arcs g xs s) (check_states g (s + 1) (drop (s + 1) xs)) (no_fault (arcs g xs s) e)
 
 -- the checks of arcs read neither the output labels nor the start

@@ -8,7 +8,7 @@ use lib.Seq.{drop-cons, drop-length}
 use native.Mathlib.Omega.{arith}
 use Rattle.model.specs.Basics.{first_of, Refusal as Wrong}
 use Rattle.refusals.specs.declared.Refusal.{Refusal}
-use Rattle.fst.specs.declared.Found.TheVariants.{Nothing, Fault}
+use Rattle.std.specs.Prelude.{Ok, Err}
 use Rattle.fst.specs.Answer.{found_of, refusal_of}
 
 module _ {A B : Type 0} (whole : B) (ahead : List A → B) (xs : List A) (i : ℕ) (so_far : whole ≡ ahead (drop i xs)) where
@@ -31,10 +31,10 @@ module _ {A : Type 0} where
 
 -- ---- what the code finds is what the definition finds
 
-pub no_fault : (o : Option Wrong) → Nothing ≡ found_of o → o ≡ none
+pub no_fault : (o : Option Wrong) → Ok tt ≡ found_of o → o ≡ none
 no_fault none e = refl
 no_fault (some x) e = let z : ◌≡◌ {A = ℕ} 0 1 = cc in absurd (omega arith)
 
-pub the_fault : (o : Option Wrong) (r : Refusal) → Fault r ≡ found_of o → (x : Wrong) × (o ≡ some x) × (r ≡ refusal_of x)
+pub the_fault : (o : Option Wrong) (r : Refusal) → Err r ≡ found_of o → (x : Wrong) × (o ≡ some x) × (r ≡ refusal_of x)
 the_fault none r e = let z : ◌≡◌ {A = ℕ} 0 1 = cc in absurd (omega arith)
 the_fault (some x) r e = (x, refl, cc)

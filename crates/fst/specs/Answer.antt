@@ -1,5 +1,5 @@
 -- The definition's graph as the ten arguments of `build`, and the code's answers by cases on the definition's.
-use Rattle.std.specs.Prelude.{◌≡◌, refl, ℕ, suc, ◌≤◌, true, ◌&&◌, List, [], ◌∷◌, map, ℤ, pos, length, Float}
+use Rattle.std.specs.Prelude.{◌≡◌, refl, ℕ, suc, ◌≤◌, true, ◌&&◌, List, [], ◌∷◌, map, ℤ, pos, length, Float, Result, Ok, Err}
 use Rattle.std.proofs.Common.{arith}
 use Rattle.std.proofs.Math.Option.{Option, none, some}
 use Rattle.lists.specs.Lists.{range}
@@ -8,11 +8,9 @@ use Rattle.model.specs.Graph.{Graph, Arc, states, emits, phone_of, label_wrong, 
 use Rattle.refusals.specs.declared.Place.{Place}
 use Rattle.refusals.specs.declared.Place.TheVariants.{Nowhere, AtArc, AtState, AtFrames}
 use Rattle.refusals.specs.declared.Refusal.{Refusal}
+use Rattle.refusals.specs.declared.Reason.{Reason}
+use Rattle.refusals.specs.Numbers.{number_of}
 use Rattle.fst.specs.declared.Graph.{Graph as Value}
-use Rattle.fst.specs.declared.Built.{Built}
-use Rattle.fst.specs.declared.Built.TheVariants.{Accepted, Refused}
-use Rattle.fst.specs.declared.Found.{Found}
-use Rattle.fst.specs.declared.Found.TheVariants.{Nothing, Fault}
 
 abbrev pub graph_of : (offsets : List ℕ) (ilabels olabels : List ℤ) (weights : List Float) (nextstates : List ℕ) (finals : List Float) (tid2pdf tid2phone : List ℤ) (start pdfs : ℕ) → Graph
 graph_of offsets ilabels olabels weights nextstates finals tid2pdf tid2phone start pdfs =
@@ -45,32 +43,32 @@ abbrev pub value_of : Graph → Value
 value_of g = record { states = states g; arcs = length g.ilabels; start = g.start; pdfs = g.pdfs }
 
 -- no refusal is an accepted graph
-abbrev pub built_of : Graph → Option Wrong → Built
-built_of g none = Accepted (value_of g)
-built_of g (some r) = Refused (refusal_of r)
+abbrev pub built_of : Graph → Option Wrong → Result Value Refusal
+built_of g none = Ok (value_of g)
+built_of g (some r) = Err (refusal_of r)
 
 -- what `build` answers for a graph
-abbrev pub build_of : Graph → Built
+abbrev pub build_of : Graph → Result Value Refusal
 build_of g = built_of g (check_graph g)
 
 -- what an answer says: the graph passed every check, and the value is its own
-pub was_accepted : (g : Graph) (v : Value) → Accepted v ≡ build_of g → (check_graph g ≡ none) × (v ≡ value_of g)
+pub was_accepted : (g : Graph) (v : Value) → Ok v ≡ build_of g → (check_graph g ≡ none) × (v ≡ value_of g)
 was_accepted g v e = go (check_graph g) e
   where
-    go : (o : Option Wrong) → Accepted v ≡ built_of g o → (o ≡ none) × (v ≡ value_of g)
+    go : (o : Option Wrong) → Ok v ≡ built_of g o → (o ≡ none) × (v ≡ value_of g)
     go none q = (refl, cc)
     go (some r) q = let z : ◌≡◌ {A = ℕ} 0 1 = cc in absurd (omega arith)
 
 -- ---- what the checks on the way find
 
-abbrev pub found_of : Option Wrong → Found
-found_of none = Nothing
-found_of (some r) = Fault (refusal_of r)
+abbrev pub found_of : Option Wrong → Result (Unit {0}) Refusal
+found_of none = Ok tt
+found_of (some r) = Err (refusal_of r)
 
--- the number alone; 0 is no fault
-abbrev pub number_of : Option Wrong → ℕ
-number_of none = 0
-number_of (some r) = r.number
+-- what the definition finds where the code finds this reason, or none
+abbrev pub wrong_of : Result (Unit {0}) Reason → Option Wrong
+wrong_of (Ok x) = none
+wrong_of (Err e) = some (record { number = number_of e; place = nowhere })
 
 -- of a graph, what the check of an arc reads
 abbrev pub tables_of : (finals : List Float) (tid2pdf tid2phone : List ℤ) (pdfs : ℕ) → Graph

@@ -1,4 +1,4 @@
-// The graph as lent slices of numbers, and its builder, which refuses by 1 to 5.
+// The graph as lent slices of numbers, and its builder, which refuses for the first five reasons.
 #![tactic(auto)]
 
 ghost use Rattle.std.specs.Prelude.{◌≡◌, ◌+◌, ◌≤◌, ◌<◌, true, not, [], length, get_or};
@@ -6,9 +6,9 @@ ghost use Rattle.lists.specs.Lists.{any};
 ghost use Rattle.model.specs.Basics.{0f, nonzero, nowhere};
 ghost use Rattle.model.specs.Graph.{Graph as ModelGraph, runs_from0, shape_wrong, start_wrong, weight_wrong, final_wrong, check_arc, check_states, check_finals, is_final};
 ghost use Rattle.fst.specs.Epsilons.{EpsFilled};
-ghost use Rattle.fst.specs.Answer.{graph_of, tables_of, arc_of, number_of, check_label, without_words, check_part, Shaped, found_of, build_of};
+ghost use Rattle.fst.specs.Answer.{graph_of, tables_of, arc_of, wrong_of, check_label, without_words, check_part, Shaped, found_of, build_of};
 
-use refusals::{Place, Refusal};
+use refusals::{Place, Reason, Refusal};
 
 // The start of a graph that has none.
 pub const NO_STATE: u32 = 4_294_967_295;
@@ -23,19 +23,6 @@ pub struct Graph {
     pub pdfs: u32,
 }
 
-#[derive(Clone, Copy)]
-pub enum Built {
-    Accepted(Graph),
-    Refused(Refusal),
-}
-
-// What a check finds: no fault, or the first one.
-#[derive(Clone, Copy)]
-enum Found {
-    Nothing,
-    Fault(Refusal),
-}
-
 // Whether the offsets run from 0 to the arc count without falling.
 fn runs(offsets: &[u32], arcs: usize) -> bool
     ensures { result ≡ runs_from0 arcs offsets.now }
@@ -47,8 +34,7 @@ fn runs(offsets: &[u32], arcs: usize) -> bool
         return false;
     }
     let mut at: u32 = 0;
-    for i in 0..offsets.len() {
-        let next = offsets[i];
+    for &next in offsets {
         if next < at {
             return false;
         }
@@ -65,7 +51,7 @@ pub fn first_arc(offsets: &[u32], state: usize) -> usize
     offsets[state] as usize
 }
 
-// 1: too many states, arcs or transition ids, lengths that disagree, or offsets that do not run from 0 to the arc count.
+// Too many states, arcs or transition ids, lengths that disagree, or offsets that do not run from 0 to the arc count.
 fn shape_wrong(
     offsets: &[u32],
     ilabels: &[i32],
@@ -107,37 +93,37 @@ fn shape_wrong(
     !runs(offsets, arcs)
 }
 
-// 3 and 4: the lower number that refuses an input label; 0 where neither does.
-fn check_label(ilabel: i32, tid2pdf: &[i32], tid2phone: &[i32], pdfs: u32) -> u32
-    ensures { result ≡ number_of (check_label (tables_of [] tid2pdf.now tid2phone.now pdfs) (arc_of ilabel 0f 0)) }
+// An input label: its pdf, then its phone.
+fn check_label(ilabel: i32, tid2pdf: &[i32], tid2phone: &[i32], pdfs: u32) -> Result<(), Reason>
+    ensures { wrong_of result ≡ check_label (tables_of [] tid2pdf.now tid2phone.now pdfs) (arc_of ilabel 0f 0) }
 {
     if ilabel < 0 {
-        return refusals::BAD_LABEL;
+        return Err(Reason::BadLabel);
     }
     if ilabel == 0 {
-        return 0;
+        return Ok(());
     }
     let i = ilabel as usize;
     if tid2pdf.len() <= i {
-        return refusals::BAD_LABEL;
+        return Err(Reason::BadLabel);
     }
     if tid2phone.len() <= i {
-        return refusals::BAD_LABEL;
+        return Err(Reason::BadLabel);
     }
     let pdf = tid2pdf[i];
     if pdf < 0 {
-        return refusals::BAD_LABEL;
+        return Err(Reason::BadLabel);
     }
     if pdfs <= pdf as u32 {
-        return refusals::BAD_LABEL;
+        return Err(Reason::BadLabel);
     }
     if tid2phone[i] < 1 {
-        return refusals::BAD_PHONE;
+        return Err(Reason::BadPhone);
     }
-    0
+    Ok(())
 }
 
-// 5, of an arc: not tame, or an epsilon arc below zero.
+// Of an arc: not tame, or an epsilon arc below zero.
 fn weight_wrong(ilabel: i32, weight: f32) -> bool
     ensures { result ≡ weight_wrong (arc_of ilabel weight 0) }
 {
@@ -150,7 +136,7 @@ fn weight_wrong(ilabel: i32, weight: f32) -> bool
     weight < 0.0
 }
 
-// 2 to 5: the lowest number that refuses an arc; 0 where none does.
+// An arc: its target, its label, its weight.
 fn check_arc(
     ilabel: i32,
     weight: f32,
@@ -159,20 +145,17 @@ fn check_arc(
     tid2pdf: &[i32],
     tid2phone: &[i32],
     pdfs: u32,
-) -> u32
-    ensures { result ≡ number_of (check_arc (tables_of finals.now tid2pdf.now tid2phone.now pdfs) nowhere (arc_of ilabel weight nextstate)) }
+) -> Result<(), Reason>
+    ensures { wrong_of result ≡ check_arc (tables_of finals.now tid2pdf.now tid2phone.now pdfs) nowhere (arc_of ilabel weight nextstate) }
 {
     if finals.len() <= nextstate as usize {
-        return refusals::NO_SUCH_STATE;
+        return Err(Reason::NoSuchState);
     }
-    let label = check_label(ilabel, tid2pdf, tid2phone, pdfs);
-    if label != 0 {
-        return label;
-    }
+    check_label(ilabel, tid2pdf, tid2phone, pdfs)?;
     if weight_wrong(ilabel, weight) {
-        return refusals::BAD_WEIGHT;
+        return Err(Reason::BadWeight);
     }
-    0
+    Ok(())
 }
 
 // The arcs of one state, which are parts of the arc tables.
@@ -185,12 +168,13 @@ fn check_arcs(
     tid2pdf: &[i32],
     tid2phone: &[i32],
     pdfs: u32,
-) -> Found
+) -> Result<(), Refusal>
     requires { (length weights.now ≡ length ilabels.now) × (length nextstates.now ≡ length ilabels.now) × (length ilabels.now ≤ 1_048_576) }
     ensures { result ≡ found_of (check_part (without_words [] ilabels.now weights.now nextstates.now finals.now tid2pdf.now tid2phone.now pdfs) state) }
 {
+    // One index over three slices: they are the C interface's parallel arrays.
     for i in 0..ilabels.len() {
-        let number = check_arc(
+        let checked = check_arc(
             ilabels[i],
             weights[i],
             nextstates[i],
@@ -199,14 +183,11 @@ fn check_arcs(
             tid2phone,
             pdfs,
         );
-        if number != 0 {
-            return Found::Fault(Refusal {
-                number,
-                place: Place::AtArc(state, i as u32),
-            });
+        if let Err(reason) = checked {
+            return Err(reason.at(Place::AtArc(state, i as u32)));
         }
     }
-    Found::Nothing
+    Ok(())
 }
 
 // The arcs, state by state.
@@ -219,14 +200,14 @@ fn check_states(
     tid2pdf: &[i32],
     tid2phone: &[i32],
     pdfs: u32,
-) -> Found
+) -> Result<(), Refusal>
     requires { Shaped offsets.now ilabels.now weights.now nextstates.now finals.now }
     ensures { result ≡ found_of (check_states (without_words offsets.now ilabels.now weights.now nextstates.now finals.now tid2pdf.now tid2phone.now pdfs) 0 offsets.now) }
 {
     for s in 0..finals.len() {
         let a = first_arc(offsets, s);
         let e = first_arc(offsets, s + 1);
-        let found = check_arcs(
+        check_arcs(
             s as u32,
             &ilabels[a..e],
             &weights[a..e],
@@ -235,15 +216,12 @@ fn check_states(
             tid2pdf,
             tid2phone,
             pdfs,
-        );
-        if let Found::Fault(refusal) = found {
-            return Found::Fault(refusal);
-        }
+        )?;
     }
-    Found::Nothing
+    Ok(())
 }
 
-// 5, of a final weight: neither tame nor +∞.
+// Of a final weight: neither tame nor +∞.
 fn final_wrong(weight: f32) -> bool
     ensures { result ≡ final_wrong weight }
 {
@@ -257,22 +235,19 @@ fn final_wrong(weight: f32) -> bool
 }
 
 // The final weights, state by state.
-fn check_finals(finals: &[f32]) -> Found
+fn check_finals(finals: &[f32]) -> Result<(), Refusal>
     requires { length finals.now ≤ 65_535 }
     ensures { result ≡ found_of (check_finals 0 finals.now) }
 {
-    for s in 0..finals.len() {
-        if final_wrong(finals[s]) {
-            return Found::Fault(Refusal {
-                number: refusals::BAD_WEIGHT,
-                place: Place::AtState(s as u32),
-            });
+    for (s, &weight) in finals.iter().enumerate() {
+        if final_wrong(weight) {
+            return Err(Reason::BadWeight.at(Place::AtState(s as u32)));
         }
     }
-    Found::Nothing
+    Ok(())
 }
 
-// 2, of the start: neither a state nor NO_STATE.
+// Of the start: neither a state nor NO_STATE.
 fn start_wrong(start: u32, finals: &[f32]) -> bool
     ensures { result ≡ start_wrong (graph_of [] [] [] [] [] finals.now [] [] start 0) }
 {
@@ -282,17 +257,7 @@ fn start_wrong(start: u32, finals: &[f32]) -> bool
     start != NO_STATE
 }
 
-// A refusal that has no place.
-fn refused(number: u32) -> Built
-    ensures { result ≡ Built.Refused (record { number = number; place = Place.Nowhere }) }
-{
-    Built::Refused(Refusal {
-        number,
-        place: Place::Nowhere,
-    })
-}
-
-// The checks in document 01's order: 1, the start, the arcs in order, the final weights.
+// The checks in document 01's order: the shape, the start, the arcs in order, the final weights.
 pub fn build(
     offsets: &[u32],
     ilabels: &[i32],
@@ -304,28 +269,22 @@ pub fn build(
     tid2phone: &[i32],
     start: u32,
     pdfs: u32,
-) -> Built
+) -> Result<Graph, Refusal>
     ensures { result ≡ build_of (graph_of offsets.now ilabels.now olabels.now weights.now nextstates.now finals.now tid2pdf.now tid2phone.now start pdfs) }
 {
     if shape_wrong(
         offsets, ilabels, olabels, weights, nextstates, finals, tid2pdf, tid2phone,
     ) {
-        return refused(refusals::BAD_SHAPE);
+        return Err(Reason::BadShape.at(Place::Nowhere));
     }
     if start_wrong(start, finals) {
-        return refused(refusals::NO_SUCH_STATE);
+        return Err(Reason::NoSuchState.at(Place::Nowhere));
     }
-    let arcs = check_states(
+    check_states(
         offsets, ilabels, weights, nextstates, finals, tid2pdf, tid2phone, pdfs,
-    );
-    let ends = check_finals(finals);
-    if let Found::Fault(refusal) = arcs {
-        return Built::Refused(refusal);
-    }
-    if let Found::Fault(refusal) = ends {
-        return Built::Refused(refusal);
-    }
-    Built::Accepted(Graph {
+    )?;
+    check_finals(finals)?;
+    Ok(Graph {
         states: finals.len() as u32,
         arcs: ilabels.len() as u32,
         start,
@@ -348,12 +307,7 @@ pub fn is_final(finals: &[f32], state: u32) -> bool
 fn has_eps(ilabels: &[i32]) -> bool
     ensures { result ≡ any (λ z. not (nonzero z)) ilabels.now }
 {
-    for i in 0..ilabels.len() {
-        if ilabels[i] == 0 {
-            return true;
-        }
-    }
-    false
+    ilabels.contains(&0)
 }
 
 // Which states have epsilon arcs: 1 or 0 for each. What stands behind the states is unchanged. The offsets are those of an accepted shape.

@@ -1,11 +1,8 @@
 -- The walks down a history, one step at a time. Assumes nothing.
-use Rattle.std.proofs.Common.{◌≡◌, ℕ, zero, suc, ◌+◌, ◌-◌, ◌*◌, ◌%◌, ◌^◌, ◌<◌, ◌≤◌, true, false, not, T, eqb, List, [], ◌∷◌, length, ℤ, pos, negsuc, nat_abs, sym, refl, ap, ◌∙◌, ap₂, add-zero, zero-add, arith, w32, Fits, SFits, to_z, of_z, le-ltb, ne_eqb}
-use lib.Signed.{lt_z, non_neg, mag}
+use Rattle.std.proofs.Common.{◌≡◌, ℕ, zero, suc, ◌+◌, ◌-◌, ◌*◌, ◌%◌, ◌^◌, ◌<◌, ◌≤◌, not, eqb, List, [], ◌∷◌, length, ℤ, pos, negsuc, sym, refl, ap, ◌∙◌, ap₂, add-zero, zero-add, arith, w32, SFits, to_z, of_z, ne_eqb}
 use lib.Ieee.{Float}
-use mir.ValLaws.{to_z_pos}
-use Rattle.lists.specs.Tests.{never}
 use Rattle.model.specs.Basics.{nonzero, unsigned}
-use Rattle.model.specs.Ints.{nonzero_yes, nonzero_no}
+use Rattle.model.specs.Ints.{back, nonzero_yes, nonzero_no}
 use Rattle.model.specs.Hash.{hash_base, hash_newest_first, newest_first}
 use Rattle.records.specs.History.{History, tag}
 use Rattle.records.specs.Layout.{Store, store, prev_at, word_at}
@@ -28,39 +25,20 @@ zero_pos (suc n) = ne_eqb (suc n) 0 (λ e. omega arith)
 
 -- ---- an i32 as a u32
 
-pub casts : (z : ℤ) → lt_z z (pos 0) ≡ false → SFits w32 z → T (non_neg z) × Fits w32 (nat_abs z)
-casts (pos n) t f = (tt, record { fits = omega (arith, f.sfits) })
-casts (negsuc n) t f = never (sym t)
+bits_are : (z : ℤ) → of_z w32 z ≡ unsigned z
+bits_are (pos n) = refl
+bits_are (negsuc n) = refl
 
-pub own_word : (z : ℤ) → lt_z z (pos 0) ≡ false → nat_abs z ≡ unsigned z
-own_word (pos n) t = refl
-own_word (negsuc n) t = never (sym t)
-
--- one below zero: its bits turned over are not below zero, and turned over again they are its own
-turned : (z : ℤ) → lt_z z (pos 0) ≡ true → SFits w32 z → to_z w32 (4294967295 - of_z w32 z) ≡ pos (mag z)
-turned (pos n) t f = never (sym (le-ltb n 0 (omega arith)) ∙ t)
-turned (negsuc n) t f =
-    let h : n < 2 ^ 31 = f.sfits in
-    let e : 4294967295 - (2 ^ 32 - suc n) ≡ n = omega arith in
-    ap (to_z w32) e ∙ to_z_pos w32 n h
-
-pub turned_casts : (z : ℤ) → lt_z z (pos 0) ≡ true → SFits w32 z → T (non_neg (to_z w32 (4294967295 - of_z w32 z))) × Fits w32 (nat_abs (to_z w32 (4294967295 - of_z w32 z)))
-turned_casts z t f = rw (turned z t f) (tt, record { fits = omega (arith, f.sfits) })
-
-pub turned_back : (z : ℤ) → lt_z z (pos 0) ≡ true → SFits w32 z → 4294967295 - nat_abs (to_z w32 (4294967295 - of_z w32 z)) ≡ unsigned z
-turned_back z t f = rw (turned z t f) (own z t)
-  where
-    own : (z : ℤ) → lt_z z (pos 0) ≡ true → 4294967295 - mag z ≡ unsigned z
-    own (pos n) t = never (sym (le-ltb n 0 (omega arith)) ∙ t)
-    own (negsuc n) t = omega arith
+pub cast_is : (z : ℤ) → SFits w32 z → of_z w32 (to_z w32 (of_z w32 z)) ≡ unsigned z
+cast_is z f = ap (of_z w32) (back z f.sfits) ∙ bits_are z
 
 -- ---- the hash
 
 -- one more word, as the code takes it
-pub older_is : (x : Hashed) (w : ℤ) {u m a s : ℕ} → u ≡ unsigned w → m ≡ (u * x.shift) % 2 ^ 64 → a ≡ (x.hash + m) % 2 ^ 64 → s ≡ (x.shift * hash_base) % 2 ^ 64
-    → ◌≡◌ {A = Hashed} (record { hash = a; shift = s; len = x.len + 1 }) (older x w)
+pub older_is : (x : Hashed) (w : ℤ) {u m s : ℕ} → u ≡ unsigned w → m ≡ (u * x.shift) % 2 ^ 64 → s ≡ (x.shift * hash_base) % 2 ^ 64
+    → ◌≡◌ {A = Hashed} (record { hash = (x.hash + m) % 2 ^ 64; shift = s; len = x.len + 1 }) (older x w)
 unfolding older
-older_is x w a b c d = rw (d, c, b, a)
+older_is x w a b c = rw (c, b, a)
 
 -- the same of a newer one
 module _ (x : Hashed) (w : ℤ) where
@@ -68,10 +46,10 @@ module _ (x : Hashed) (w : ℤ) where
   unfolding newer
   newer_none f e = rw (nonzero_no w f e) refl
 
-  pub newer_is : {u m a s : ℕ} → (of_z w32 w ≡ 0 → ⊥) → u ≡ unsigned w → m ≡ (x.hash * hash_base) % 2 ^ 64 → a ≡ (m + u) % 2 ^ 64 → s ≡ (x.shift * hash_base) % 2 ^ 64
-      → ◌≡◌ {A = Hashed} (record { hash = a; shift = s; len = x.len + 1 }) (newer x w)
+  pub newer_is : {u m s : ℕ} → (of_z w32 w ≡ 0 → ⊥) → u ≡ unsigned w → m ≡ (x.hash * hash_base) % 2 ^ 64 → s ≡ (x.shift * hash_base) % 2 ^ 64
+      → ◌≡◌ {A = Hashed} (record { hash = (m + u) % 2 ^ 64; shift = s; len = x.len + 1 }) (newer x w)
   unfolding newer
-  newer_is n a b c d = rw (nonzero_yes w n, d, c, b, a) refl
+  newer_is n a b c = rw (nonzero_yes w n, c, b, a) refl
 
 -- more words, newest first
 unfoldable pub older_all : Hashed → List ℤ → Hashed

@@ -2,7 +2,6 @@
 #![tactic(auto)]
 
 ghost use Rattle.std.specs.Prelude.{◌≡◌, ◌-◌, ◌*◌, ◌^◌, ◌<◌, ◌≤◌, true, length};
-ghost use Rattle.model.specs.Basics.{unsigned};
 ghost use Rattle.joins.specs.Walk.{Chains};
 ghost use Rattle.histories.specs.Reading.{is_join_at, older, newer, EndIs, HashIs};
 
@@ -20,7 +19,7 @@ pub fn is_join(records: &[u32], labels: &[i32], r: u32) -> bool
     records::starts_of(records, r) == 0
 }
 
-// The newest join from a record on, 0 for none.
+// The newest join from a record on, 0 for none: record numbers stand so in the lent slices of the C interface. The links of the chain are followed, and no index is counted.
 pub fn first_join(records: &[u32], labels: &[i32], used: u32, link: u32) -> u32
     requires { (Chains records.now labels.now used) × (link ≤ used) }
     ensures { EndIs records.now labels.now used link true result }
@@ -33,16 +32,6 @@ pub fn first_join(records: &[u32], labels: &[i32], used: u32, link: u32) -> u32
         r = records::prev_of(records, r);
     }
     r
-}
-
-// An i32 read as a u32.
-fn unsigned_of(w: i32) -> u32
-    ensures { result ≡ unsigned w }
-{
-    if w < 0 {
-        return !(!w as u32);
-    }
-    w as u32
 }
 
 // The hash of words, the factor that shifts a hash past them, and how many there are.
@@ -58,8 +47,9 @@ fn hash_older(h: Hashed, word: i32) -> Hashed
     requires { h.len < 2 ^ 32 - 1 }
     ensures { result ≡ older h word }
 {
+    let shifted = wrapping_mul(u64::from(word.cast_unsigned()), h.shift);
     Hashed {
-        hash: std::num::wrapping_add_u64(h.hash, wrapping_mul(unsigned_of(word) as u64, h.shift)),
+        hash: h.hash.wrapping_add(shifted),
         shift: wrapping_mul(h.shift, HASH_BASE),
         len: h.len + 1,
     }
@@ -92,7 +82,7 @@ pub fn with_word(h: Hashed, word: i32) -> Hashed
         return h;
     }
     Hashed {
-        hash: std::num::wrapping_add_u64(wrapping_mul(h.hash, HASH_BASE), unsigned_of(word) as u64),
+        hash: wrapping_mul(h.hash, HASH_BASE).wrapping_add(u64::from(word.cast_unsigned())),
         shift: wrapping_mul(h.shift, HASH_BASE),
         len: h.len + 1,
     }

@@ -1,5 +1,5 @@
 -- What `keep` leaves is what the definition's `keep` gives, for any loser: a token that stood there, or an arrival. Assumes nothing.
-use Rattle.std.specs.Prelude.{◌≡◌, ℕ, suc, ◌≤◌, Bool, List, eqb, ℤ, pos, Float}
+use Rattle.std.specs.Prelude.{◌≡◌, ℕ, suc, ◌≤◌, Bool, List, eqb, ℤ, pos, Float, Option as RustOption, Some, None, Result, Ok, Err}
 use Rattle.std.proofs.Math.Path.{refl, sym, ap}
 use Rattle.std.proofs.Common.{◌∙◌, arith}
 use Rattle.std.proofs.Math.Bool.{true, false}
@@ -12,17 +12,15 @@ use Rattle.tokens.specs.declared.Token
 use Rattle.records.specs.History.{History, join_on, tag, history_of, plain, beside_word, beside_starts, history_beside}
 use Rattle.records.specs.Layout.{Store, beside_in}
 use Rattle.records.specs.Stands.{Stands, put}
-use Rattle.joins.specs.declared.Margin.{Margin}
-use Rattle.joins.specs.declared.Margin.TheVariants.{Off, Within}
-use Rattle.joins.specs.declared.Keeping.{Keeping}
-use Rattle.joins.specs.declared.Keeping.TheVariants.{Dropped, Full, Joined}
 use Rattle.joins.specs.Worth.{worth}
 use Rattle.joins.specs.Paths.{own_arc, worth_plain, worth_beside, fresh_apart}
 use Rattle.joins.specs.Keep.{keeps_of, kept_of, KeptIs, KeepIs, drops_loser, finds_full, joins_loser}
+use Rattle.refusals.specs.declared.Reason.{Reason}
+use Rattle.refusals.specs.Numbers.{number_of}
 
-abbrev pub margin_of : Margin → Option Float
-margin_of Off = none
-margin_of (Within m) = some m
+abbrev pub margin_of : RustOption Float → Option Float
+margin_of None = none
+margin_of (Some m) = some m
 
 -- ---- the loser
 
@@ -62,7 +60,7 @@ module _ {h : ℕ → History} {won : Path} {wl ll : ℕ} (a : plain won ≡ tru
 
 -- The code's arguments are the model's: `hand` are the live paths, `number` is the join's.
 pub record KeepFor (H : Here) (hand : List Path) (number : ℕ) (w l : Token) (h : ℕ → History) (s : Store)
-    (used cap frame : ℕ) (margin : Margin) (gap : Float) (won lost : Token.Token) (over : ℤ) (starts : ℕ) : Type 0 where
+    (used cap frame : ℕ) (margin : RustOption Float) (gap : Float) (won lost : Token.Token) (over : ℤ) (starts : ℕ) : Type 0 where
   pub stands : Stands s used h
   pub fresh : tag (h used) ≤ number
   pub full_is : keeps H.margin gap w l ≡ true → H.limits.full hand ≡ eqb used cap
@@ -79,22 +77,22 @@ pub record KeepFor (H : Here) (hand : List Path) (number : ℕ) (w l : Token) (h
   pub loses : Loses h w.path l.path won.link lost.link over starts
 
 -- what comes of it, by the answer
-abbrev pub KeepComes : Here → (hand : List Path) → (number : ℕ) → (gap : Float) → (w l : Token) → (ℕ → History) → (s s' : Store) → (used : ℕ) → Keeping → Type 0
-KeepComes H hand number gap w l h s s' used Dropped = (keep H hand number gap w l ≡ ok none) × (s' ≡ s)
-KeepComes H hand number gap w l h s s' used Full = (keep H hand number gap w l ≡ refused 13) × (s' ≡ s)
-KeepComes H hand number gap w l h s s' used (Joined r) =
+abbrev pub KeepComes : Here → (hand : List Path) → (number : ℕ) → (gap : Float) → (w l : Token) → (ℕ → History) → (s s' : Store) → (used : ℕ) → Result (RustOption ℕ) Reason → Type 0
+KeepComes H hand number gap w l h s s' used (Ok None) = (keep H hand number gap w l ≡ ok none) × (s' ≡ s)
+KeepComes H hand number gap w l h s s' used (Err e) = (keep H hand number gap w l ≡ refused (number_of e)) × (s' ≡ s)
+KeepComes H hand number gap w l h s s' used (Ok (Some r)) =
     (keep H hand number gap w l ≡ ok (some (joined H number w l))) × (r ≡ suc used) × Stands s' (suc used) (put h (suc used) (history_of (joined H number w l).path))
 
 module _ {H : Here} {hand : List Path} {number : ℕ} {w l : Token} {h : ℕ → History} {s : Store}
-    {used cap frame : ℕ} {margin : Margin} {gap : Float} {won lost : Token.Token} {over : ℤ} {starts : ℕ}
+    {used cap frame : ℕ} {margin : RustOption Float} {gap : Float} {won lost : Token.Token} {over : ℤ} {starts : ℕ}
     (F : KeepFor H hand number w l h s used cap frame margin gap won lost over starts) where
   pub keeps_is : keeps H.margin gap w l ≡ keeps_of margin gap (h won.link) (h lost.link) over
   unfolding keeps keeps_of
   keeps_is = ap (λ (o : Option Float). keeps o gap w l) F.margin_is ∙ go margin
     where
-      go : (m : Margin) → keeps (margin_of m) gap w l ≡ keeps_of m gap (h won.link) (h lost.link) over
-      go Off = refl
-      go (Within m) = rw (F.gap_is, F.loses.worth_is (m ⊖ gap))
+      go : (m : RustOption Float) → keeps (margin_of m) gap w l ≡ keeps_of m gap (h won.link) (h lost.link) over
+      go None = refl
+      go (Some m) = rw (F.gap_is, F.loses.worth_is (m ⊖ gap))
 
   pub joined_history : history_of (joined H number w l).path ≡ join_on number frame (beside_in (kept_of gap won lost over starts)) (h lost.link) (h won.link)
   unfolding joined history_of
@@ -103,7 +101,7 @@ module _ {H : Here} {hand : List Path} {number : ℕ} {w l : Token} {h : ℕ →
   decided : (b : Bool) → KeptIs s used margin gap won lost over b → keeps H.margin gap w l ≡ b
   decided b k = keeps_is ∙ sym (k.is h F.stands)
 
-  pub keep_comes : {s' : Store} {r : Keeping} → KeepIs s s' used cap frame margin gap won lost over starts r → KeepComes H hand number gap w l h s s' used r
+  pub keep_comes : {s' : Store} {r : Result (RustOption ℕ) Reason} → KeepIs s s' used cap frame margin gap won lost over starts r → KeepComes H hand number gap w l h s s' used r
   unfolding keep
   keep_comes (drops_loser k e) = (rw (decided false k, keep), e)
   keep_comes (finds_full k q e) = (rw (decided true k, F.full_is (decided true k), eq-eqb used cap q, keep), e)

@@ -1,13 +1,11 @@
 -- What the steps of the comparing walk give.
-use Rattle.std.specs.Prelude.{◌≡◌, ℕ, ◌-◌, ◌*◌, ◌≤◌, ◌<◌, Bool, true, not, ◌&&◌, List, [], ◌∷◌, ℤ, ltb, length, Float}
+use Rattle.std.specs.Prelude.{◌≡◌, ℕ, ◌-◌, ◌*◌, ◌≤◌, ◌<◌, Bool, true, not, ◌&&◌, List, [], ◌∷◌, ℤ, ltb, length, Float, Option, Some, None}
 use Rattle.model.specs.Basics.{◌≼◌}
 use Rattle.model.specs.Path.{with_word, same_words}
 use Rattle.records.specs.History.{History, tag}
 use Rattle.records.specs.Layout.{Store, store, Rec, is_link_rec, prev_at, word_at}
 use Rattle.records.specs.Stands.{Stands}
 use Rattle.records.specs.Shape.{Shape}
-use Rattle.joins.specs.declared.Meeting.{Meeting}
-use Rattle.joins.specs.declared.Meeting.TheVariants.{At, Fits}
 use Rattle.joins.specs.Worth.{words_of, above_of, worth}
 
 -- a join whose kept history costs at most `slack`
@@ -43,9 +41,9 @@ pub record MetAt (s : Store) (n won lost : ℕ) (slack : Float) (m : ℕ) : Type
 pub record FitsAbove (s : Store) (n won lost : ℕ) (slack : Float) : Type 0 where
   pub worth_is : (h : ℕ → History) (over : ℤ) → Stands s n h → worth (h won) (h lost) over slack ≡ true
 
-abbrev pub MeetingIs : Store → (n won lost : ℕ) → (slack : Float) → Meeting → Type 0
-MeetingIs s n won lost slack (At m) = MetAt s n won lost slack m
-MeetingIs s n won lost slack Fits = FitsAbove s n won lost slack
+abbrev pub MeetingIs : Store → (n won lost : ℕ) → (slack : Float) → Option ℕ → Type 0
+MeetingIs s n won lost slack (Some m) = MetAt s n won lost slack m
+MeetingIs s n won lost slack None = FitsAbove s n won lost slack
 
 -- From record r down to record m, the next word is that of record q, if q is above m.
 pub record NextWord (rs : List ℕ) (ls : List ℤ) (n r m q : ℕ) : Type 0 where

@@ -8,6 +8,7 @@ ghost use Rattle.joins.specs.Walk.{join_within, Chains, MeetingIs, NextWord, Sam
 ghost use Rattle.joins.specs.Keep.{KeptIs, KeepAsks, KeepIs};
 
 use records::Kept;
+use refusals::Reason;
 use tokens::Token;
 
 // Whether the record is a join whose kept history costs at most `slack`.
@@ -24,14 +25,7 @@ fn join_within(records: &[u32], labels: &[i32], gaps: &[f32], r: u32, slack: f32
     records::cost_of(gaps, r) <= slack
 }
 
-// Where two histories meet: at a record (0 where they share none), unless the loser has a kept history above it that fits.
-#[derive(Clone, Copy)]
-enum Meeting {
-    At(u32),
-    Fits,
-}
-
-// Record numbers fall along a history, so the larger number is stepped, and this walk visits each record at most once; words are compared in another. `used` says how many records the store holds.
+// Where two histories meet: at a record (0 where they share none), unless the loser has a kept history above it that fits. Record numbers fall along a history, so the larger number is stepped, and this walk visits each record at most once; words are compared in another. `used` says how many records the store holds.
 fn meet(
     records: &[u32],
     labels: &[i32],
@@ -40,7 +34,7 @@ fn meet(
     won: u32,
     lost: u32,
     slack: f32,
-) -> Meeting
+) -> Option<u32>
     requires { (Shape (store records.now labels.now gaps.now) used) × (won ≤ used) × (lost ≤ used) }
     ensures { MeetingIs (store records.now labels.now gaps.now) used won lost slack result }
 {
@@ -54,11 +48,11 @@ fn meet(
             a = records::prev_of(records, a);
         }
         if join_within(records, labels, gaps, b, slack) {
-            return Meeting::Fits;
+            return None;
         }
         b = records::prev_of(records, b);
     }
-    Meeting::At(a)
+    Some(a)
 }
 
 // The newest record with a word from `r` down to `met`; `met` or a lower number where there is none.
@@ -152,33 +146,18 @@ pub fn worth_keeping(
     ensures { WorthIs (store records.now labels.now gaps.now) used won lost over slack result }
 {
     match meet(records, labels, gaps, used, won, lost, slack) {
-        Meeting::At(met) => !same_words(records, labels, used, won, lost, over, met),
-        Meeting::Fits => true,
+        Some(met) => !same_words(records, labels, used, won, lost, over, met),
+        None => true,
     }
 }
 
-// The keep margin.
-#[derive(Clone, Copy)]
-pub enum Margin {
-    Off,
-    Within(f32),
-}
-
-// What became of a loser: dropped, kept under a join of this number, or refused, since its join finds the store full.
-#[derive(Clone, Copy)]
-pub enum Keeping {
-    Dropped,
-    Full,
-    Joined(u32),
-}
-
-// Whether the loser is within the margin and worth keeping.
+// Whether the loser is within the keep margin, if there is one, and worth keeping.
 fn is_kept(
     records: &[u32],
     labels: &[i32],
     gaps: &[f32],
     used: u32,
-    margin: Margin,
+    margin: Option<f32>,
     gap: f32,
     won: Token,
     lost: Token,
@@ -187,7 +166,7 @@ fn is_kept(
     requires { (Shape (store records.now labels.now gaps.now) used) × (won.link ≤ used) × (lost.link ≤ used) }
     ensures { KeptIs (store records.now labels.now gaps.now) used margin gap won lost over result }
 {
-    let Margin::Within(m) = margin else {
+    let Some(m) = margin else {
         return false;
     };
     if gap <= m {
@@ -207,7 +186,8 @@ fn is_kept(
 }
 
 // Keeps the loser beside the winner where it is within the margin and worth it. Of an arrival that lost, `lost.link` is its source's newest record; its arc's word and the phone
-// that the arc starts are `over` and `over_starts`, which are 0 for a token that stood there.
+// that the arc starts are `over` and `over_starts`, which are 0 for a token that stood there. Gives the number of its join,
+// none where it is dropped; 13 where the join finds the store full.
 pub fn keep(
     records: &mut [u32],
     labels: &mut [i32],
@@ -215,21 +195,21 @@ pub fn keep(
     used: u32,
     cap: u32,
     frame: u32,
-    margin: Margin,
+    margin: Option<f32>,
     gap: f32,
     won: Token,
     lost: Token,
     over: i32,
     over_starts: u32,
-) -> Keeping
+) -> Result<Option<u32>, Reason>
     requires { KeepAsks (store records.old labels.old gaps.old) used cap won lost }
     ensures { KeepIs (store records.old labels.old gaps.old) (store records.new labels.new gaps.new) used cap frame margin gap won lost over over_starts result }
 {
     if !is_kept(records, labels, gaps, used, margin, gap, won, lost, over) {
-        return Keeping::Dropped;
+        return Ok(None);
     }
     if used == cap {
-        return Keeping::Full;
+        return Err(Reason::RecordsFull);
     }
     let k = Kept {
         link: lost.link,
@@ -240,5 +220,5 @@ pub fn keep(
         phone: lost.phone,
         winner: won.phone,
     };
-    Keeping::Joined(records::put_join(records, labels, gaps, used, won.link, frame, k))
+    Ok(Some(records::put_join(records, labels, gaps, used, won.link, frame, k)))
 }

@@ -1,5 +1,5 @@
 -- The queue's loop: last in, first out, until the queue is empty. Assumes nothing.
-use Rattle.std.specs.Prelude.{◌≡◌, refl, ℕ, ◌-◌, ◌≤◌, ◌<◌, List, [], ◌∷◌, length, get_or}
+use Rattle.std.specs.Prelude.{◌≡◌, refl, ℕ, ◌-◌, ◌≤◌, ◌<◌, List, [], ◌∷◌, length, get_or, Result, Ok, Err}
 use Rattle.std.proofs.Common.{sym, ap, ◌∙◌, arith}
 use Rattle.std.proofs.Math.Path.{subst}
 use Rattle.std.proofs.Math.Option.{none}
@@ -9,7 +9,7 @@ use Rattle.model.specs.Graph.{Arc, states, arcs_of}
 use Rattle.model.specs.Path.{Path, Table}
 use Rattle.model.specs.Arrive.{Here, Work as ModelWork}
 use Rattle.model.specs.Passes.{popped, expand}
-use Rattle.model.specs.Accepted.{Ok}
+use Rattle.model.specs.Accepted.{Ok as Accepted}
 use Rattle.copy_laws.specs.Spending.{Fits, left}
 use Rattle.copy_laws.specs.Ends.{Loops, loop_ends, loop_refused, loop_turns}
 use Rattle.copy_laws.proofs.Ends.{Going as Lasts, turn_goes}
@@ -17,14 +17,14 @@ use Rattle.stores.specs.Rep.{Lent}
 use Rattle.arrivals.specs.declared.Setting.{Setting}
 use Rattle.arcs.specs.declared.Pass.TheVariants.{Nonemitting}
 use Rattle.arcs.specs.declared.Work.{Work}
-use Rattle.arcs.specs.declared.Passed.{Passed}
-use Rattle.arcs.specs.declared.Passed.TheVariants.{Refused, On}
 use Rattle.arcs.specs.Queue.{Queued}
 use Rattle.arcs.specs.Passed.{Ground, At}
 use Rattle.arcs.specs.State.{Tables, TablesOf}
 use Rattle.arcs.specs.Ended.{EndedBy, ended_refused, ended_on}
 use Rattle.nonemitting.specs.Expand.{ExpandGiven, ExpandIs}
 use Rattle.nonemitting.specs.Measure.{left_in, left_is}
+use Rattle.refusals.specs.declared.Reason.{Reason}
+use Rattle.refusals.specs.Numbers.{number_of}
 
 pub record DrainGiven (g : Setting) (m : Lent) (qs eps : List ℕ) (T : Tables) (x : Work) : Type 0 where
   pub H : Here
@@ -37,12 +37,12 @@ pub record DrainGiven (g : Setting) (m : Lent) (qs eps : List ℕ) (T : Tables) 
   pub costs : Fits w.table
 
 -- what the loop comes to
-pub record Drained {g : Setting} {m : Lent} {qs eps : List ℕ} {T : Tables} {x : Work} (G : DrainGiven g m qs eps T x) (m' : Lent) (qs' : List ℕ) (r : Passed) : Type 0 where
+pub record Drained {g : Setting} {m : Lent} {qs eps : List ℕ} {T : Tables} {x : Work} (G : DrainGiven g m qs eps T x) (m' : Lent) (qs' : List ℕ) (r : Result Work Reason) : Type 0 where
   pub outcome : Outcome ModelWork
   pub loops : Loops G.H G.w outcome
   pub ends : EndedBy g m' qs' G.done outcome r
 
-abbrev pub DrainIs : (g : Setting) → (m m' : Lent) → (qs qs' eps : List ℕ) → Tables → Work → Passed → Type 0
+abbrev pub DrainIs : (g : Setting) → (m m' : Lent) → (qs qs' eps : List ℕ) → Tables → Work → Result Work Reason → Type 0
 DrainIs g m m' qs qs' eps T x r = (G : DrainGiven g m qs eps T x) → Drained G m' qs' r
 
 -- one state less in the queue
@@ -85,7 +85,7 @@ module _ {g : Setting} {m : Lent} {qs eps : List ℕ} {T : Tables} {x : Work} (G
   far_start = record { w' = G.w; p = G.p; at = G.at; costs = G.costs; rest = λ o l. l }
 
   module _ {m' : Lent} {qs' : List ℕ} {x' : Work} (F : SoFar m' qs' x') where
-    pub far_end : x'.queued ≤ 0 → Drained G m' qs' (On x')
+    pub far_end : x'.queued ≤ 0 → Drained G m' qs' (Ok x')
     far_end l = record { outcome = ok F.w'; loops = F.rest (ok F.w') (loop_ends (empty g.states qs' x'.queued F.w'.queue l F.at.queue)); ends = ended_on F.p F.at }
 
     module _ (some : 0 < x'.queued) where
@@ -117,7 +117,7 @@ module _ {g : Setting} {m : Lent} {qs eps : List ℕ} {T : Tables} {x : Work} (G
         pub state_given : ExpandGiven g m' qs' eps T (unqueued x') s
         state_given = subst (ExpandGiven g m' qs' eps T (unqueued x')) (sym (is ∙ top.last)) given_top
 
-        module _ {m'' : Lent} {qs'' : List ℕ} {r : Passed} (step : ExpandIs g m' m'' qs' qs'' eps T (unqueued x') s r) where
+        module _ {m'' : Lent} {qs'' : List ℕ} {r : Result Work Reason} (step : ExpandIs g m' m'' qs' qs'' eps T (unqueued x') s r) where
           abbrev turned : Outcome ModelWork
           turned = expand G.H top.s (get_or F.w'.table top.s none) after
 
@@ -125,13 +125,13 @@ module _ {g : Setting} {m : Lent} {qs eps : List ℕ} {T : Tables} {x : Work} (G
           unfolding given_top
           step_top = subst (λ (j : ℕ). ExpandIs g m' m'' qs' qs'' eps T (unqueued x') j r) (is ∙ top.last) step given_top
 
-          pub far_stop : (n : ℕ) → r ≡ Refused n → Drained G m'' qs'' (Refused n)
+          pub far_stop : (n : Reason) → r ≡ Err n → Drained G m'' qs'' (Err n)
           far_stop n e = go turned refl (subst (EndedBy g m'' qs'' G.done turned) e step_top)
             where
-              go : (o : Outcome ModelWork) → turned ≡ o → EndedBy g m'' qs'' G.done o (Refused n) → Drained G m'' qs'' (Refused n)
-              go o q (ended_refused j d z) = record { outcome = refused n; loops = F.rest (refused n) (loop_refused top.s top.rest n top.is q); ends = ended_refused n d z }
+              go : (o : Outcome ModelWork) → turned ≡ o → EndedBy g m'' qs'' G.done o (Err n) → Drained G m'' qs'' (Err n)
+              go o q (ended_refused j z) = record { outcome = refused (number_of n); loops = F.rest (refused (number_of n)) (loop_refused top.s top.rest (number_of n) top.is q); ends = ended_refused n z }
 
-          module _ (x'' : Work) (e : r ≡ On x'') where
+          module _ (x'' : Work) (e : r ≡ Ok x'') where
             record Turn : Type 0 where
               v : ModelWork
               p : Path
@@ -141,7 +141,7 @@ module _ {g : Setting} {m : Lent} {qs eps : List ℕ} {T : Tables} {x : Work} (G
             turn : Turn
             turn = go turned refl (subst (EndedBy g m'' qs'' G.done turned) e step_top)
               where
-                go : (o : Outcome ModelWork) → turned ≡ o → EndedBy g m'' qs'' G.done o (On x'') → Turn
+                go : (o : Outcome ModelWork) → turned ≡ o → EndedBy g m'' qs'' G.done o (Ok x'') → Turn
                 go o q (ended_on {w} p A) = record { v = w; p = p; at = A; goes = q }
 
             abbrev len : ℕ
@@ -149,7 +149,7 @@ module _ {g : Setting} {m : Lent} {qs eps : List ℕ} {T : Tables} {x : Work} (G
 
             lasts : Lasts G.H inside (left len F.w' - 1) turn.v
             lasts =
-                subst (Ok (Lasts G.H inside (left len F.w' - 1))) turn.goes
+                subst (Accepted (Lasts G.H inside (left len F.w' - 1))) turn.goes
                 (turn_goes G.H inside (left len F.w' - 1) top.s top.rest F.w' top.is (record { long = F.at.stood.rep.progress.size ∙ G.ground.states; costs = F.costs; small = omega arith }))
 
             pub far_next : SoFar m'' qs'' x''

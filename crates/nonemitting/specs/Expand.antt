@@ -1,5 +1,5 @@
 -- One popped state: its token's arcs, unless the token is at or above the cutoff. Assumes nothing.
-use Rattle.std.specs.Prelude.{◌≡◌, ℕ, ◌+◌, ◌*◌, ◌≤◌, ◌<◌, Bool, true, false, List, [], ltb, ℤ, length, get_or, Float}
+use Rattle.std.specs.Prelude.{◌≡◌, ℕ, ◌+◌, ◌*◌, ◌≤◌, ◌<◌, Bool, true, false, List, [], ltb, ℤ, length, get_or, Float, Result, Ok}
 use Rattle.std.proofs.Math.Path.{sym, ap, subst}
 use Rattle.std.proofs.Common.{◌∙◌, arith}
 use Rattle.std.proofs.Math.Option.{Option, none}
@@ -17,12 +17,11 @@ use Rattle.stores.specs.Rep.{Lent}
 use Rattle.arrivals.specs.declared.Setting.{Setting}
 use Rattle.arcs.specs.declared.Pass.TheVariants.{Nonemitting}
 use Rattle.arcs.specs.declared.Work.{Work}
-use Rattle.arcs.specs.declared.Passed.{Passed}
-use Rattle.arcs.specs.declared.Passed.TheVariants.{On}
 use Rattle.arcs.specs.Part.{SourceIs}
 use Rattle.arcs.specs.Passed.{Ground, At}
 use Rattle.arcs.specs.State.{Tables, tables, TablesOf, StateGiven, StateIs}
 use Rattle.arcs.specs.Ended.{EndedBy, ended_on, ended, with_link, in_hand}
+use Rattle.refusals.specs.declared.Reason.{Reason}
 
 -- the graph's tables, with no frame
 abbrev pub graph_tables : (offsets : List ℕ) (ilabels olabels : List ℤ) (weights : List Float) (nextstates : List ℕ) (tid2pdf tid2phone : List ℤ) → Tables
@@ -42,7 +41,7 @@ pub record ExpandGiven (g : Setting) (m : Lent) (qs eps : List ℕ) (T : Tables)
 abbrev pub expand_of : {g : Setting} {m : Lent} {qs eps : List ℕ} {T : Tables} {x : Work} {s : ℕ} → ExpandGiven g m qs eps T x s → Outcome ModelWork
 expand_of {s = s} G = expand G.H s (get_or G.w.table s none) G.w
 
-abbrev pub ExpandIs : (g : Setting) → (m m' : Lent) → (qs qs' eps : List ℕ) → Tables → Work → (s : ℕ) → Passed → Type 0
+abbrev pub ExpandIs : (g : Setting) → (m m' : Lent) → (qs qs' eps : List ℕ) → Tables → Work → (s : ℕ) → Result Work Reason → Type 0
 ExpandIs g m m' qs qs' eps T x s r = (G : ExpandGiven g m qs eps T x s) → EndedBy g m' qs' G.done (expand_of G) r
 
 -- ---- the pass reads no frame
@@ -62,17 +61,17 @@ module _ {g : Setting} {m : Lent} {qs eps : List ℕ} {T : Tables} {x : Work} {s
   abbrev shown : Shown G.at.stood.rep.h x.used m.tokens m.sums g.side g.states G.w.table
   shown = G.at.stood.rep.progress
 
-  abbrev By : Lent → List ℕ → Outcome ModelWork → Passed → Type 0
+  abbrev By : Lent → List ℕ → Outcome ModelWork → Result Work Reason → Type 0
   By m' qs' = EndedBy g m' qs' G.done
 
   pub token_asks : (g.side ≤ 1) × (s * 8 + 8 ≤ length m.tokens) × (s * 4 + 4 ≤ length m.sums)
   token_asks = let l = G.low in (G.ground.pass.side, let z = G.at.stood.places.tokens in omega arith, let z = G.at.stood.places.sums in omega arith)
 
   -- it has no token
-  pub expand_vacant : ltb 0 (held_at m.tokens (place_in g.side s)) ≡ false → By m qs (expand_of G) (On x)
+  pub expand_vacant : ltb 0 (held_at m.tokens (place_in g.side s)) ≡ false → By m qs (expand_of G) (Ok x)
   unfolding expand
   expand_vacant e =
-      subst (λ (o : Option Token). By m qs (expand G.H s o G.w) (On x)) (sym (vacant_at shown s G.low (none_held _ e))) (ended_on G.p G.at)
+      subst (λ (o : Option Token). By m qs (expand G.H s o G.w) (Ok x)) (sym (vacant_at shown s G.low (none_held _ e))) (ended_on G.p G.at)
 
   module _ (e : ltb 0 (held_at m.tokens (place_in g.side s)) ≡ true) (source : Stored) (is : source ≡ token_of (cell_at m.tokens m.sums (place_in g.side s))) where
     abbrev act : Active shown s
@@ -88,8 +87,8 @@ module _ {g : Setting} {m : Lent} {qs eps : List ℕ} {T : Tables} {x : Work} {s
         ap (expand_arc_by G.H s act.token G.w) ((λ i. G.at.cutoff i ≼ sym source_is.cost i) ∙ c)
 
     -- its token is at or above the cutoff
-    pub expand_cut : (x.cutoff ≼ source.cost) ≡ true → By m qs (expand_of G) (On x)
-    expand_cut c = subst (λ (o : Outcome ModelWork). By m qs o (On x)) (sym (goes c)) (ended_on G.p G.at)
+    pub expand_cut : (x.cutoff ≼ source.cost) ≡ true → By m qs (expand_of G) (Ok x)
+    expand_cut c = subst (λ (o : Outcome ModelWork). By m qs o (Ok x)) (sym (goes c)) (ended_on G.p G.at)
 
     -- its token's path is in hand
     pub state_given : (ls : List Float) → StateGiven g m qs eps Nonemitting (with_frame T ls) (with_link x source.link) source s
@@ -106,6 +105,6 @@ module _ {g : Setting} {m : Lent} {qs eps : List ℕ} {T : Tables} {x : Work} {s
           low = G.low;
         }
 
-    pub expand_goes : (ls : List Float) (m' : Lent) (qs' : List ℕ) (r : Passed) → (x.cutoff ≼ source.cost) ≡ false → StateIs g m m' qs qs' eps Nonemitting (with_frame T ls) (with_link x source.link) source s r → By m' qs' (expand_of G) r
+    pub expand_goes : (ls : List Float) (m' : Lent) (qs' : List ℕ) (r : Result Work Reason) → (x.cutoff ≼ source.cost) ≡ false → StateIs g m m' qs qs' eps Nonemitting (with_frame T ls) (with_link x source.link) source s r → By m' qs' (expand_of G) r
     unfolding state_given
     expand_goes ls m' qs' r c S = subst (λ (o : Outcome ModelWork). By m' qs' o r) (sym (goes c)) (ended (S (state_given ls)))

@@ -1,5 +1,5 @@
 -- The whole pass: the pushes, then the loop. Assumes nothing.
-use Rattle.std.specs.Prelude.{◌≡◌, refl, ℕ, ◌*◌, ◌≤◌, List, [], T, length, get_or, Float}
+use Rattle.std.specs.Prelude.{◌≡◌, refl, ℕ, ◌*◌, ◌≤◌, List, [], T, length, get_or, Float, Result, Ok, Err}
 use Rattle.std.proofs.Common.{sym, ap, ◌∙◌, subst, arith}
 use Rattle.std.proofs.Math.Option.{Option, none, some}
 use Rattle.std.specs.Float.{binary32, nan}
@@ -8,7 +8,7 @@ use Rattle.model.specs.Basics.{Outcome, ok, ◌>>=◌}
 use Rattle.model.specs.Path.{Path, Token, Table}
 use Rattle.model.specs.Arrive.{Here, Work as ModelWork}
 use Rattle.model.specs.Passes.{drain, fuel, nonemitting_pass}
-use Rattle.model.specs.Accepted.{Ok}
+use Rattle.model.specs.Accepted.{Ok as Accepted}
 use Rattle.tokens.specs.Layout.{Cell, cell_at, place_in}
 use Rattle.records.specs.History.{History}
 use Rattle.copy_laws.proofs.Tables.{at_length, none≢some, some_same}
@@ -22,14 +22,13 @@ use Rattle.stores.specs.Rep.{Lent}
 use Rattle.arrivals.specs.declared.Setting.{Setting}
 use Rattle.arcs.specs.declared.Pass.TheVariants.{Nonemitting}
 use Rattle.arcs.specs.declared.Work.{Work}
-use Rattle.arcs.specs.declared.Passed.{Passed}
-use Rattle.arcs.specs.declared.Passed.TheVariants.{Refused, On}
 use Rattle.arcs.specs.Passed.{Ground, At, PassedBy, passed_refused, passed_on}
 use Rattle.arcs.specs.State.{Tables, TablesOf}
 use Rattle.arcs.specs.Ended.{EndedBy, ended_refused}
 use Rattle.nonemitting.specs.Pushes.{PushGiven, pushes_of}
 use Rattle.nonemitting.specs.Drain.{DrainGiven, DrainIs}
 use Rattle.nonemitting.specs.Once.{runs_once}
+use Rattle.refusals.specs.declared.Reason.{Reason}
 
 -- any path may be in hand when the pass begins: record 0 stands for the empty one
 pub record NonemittingGiven (g : Setting) (m : Lent) (qs eps : List ℕ) (T : Tables) (x : Work) : Type 0 where
@@ -44,11 +43,11 @@ pub record NonemittingGiven (g : Setting) (m : Lent) (qs eps : List ℕ) (T : Ta
   pub none_requeued : w.requeued ≡ []
 
 -- what the pass leaves
-pub record Nonemitted {g : Setting} {m : Lent} {qs eps : List ℕ} {T : Tables} {x : Work} (G : NonemittingGiven g m qs eps T x) (m' : Lent) (qs' : List ℕ) (r : Passed) : Type 0 where
+pub record Nonemitted {g : Setting} {m : Lent} {qs eps : List ℕ} {T : Tables} {x : Work} (G : NonemittingGiven g m qs eps T x) (m' : Lent) (qs' : List ℕ) (r : Result Work Reason) : Type 0 where
   pub ends : EndedBy g m' qs' G.done (nonemitting_pass G.H G.w) r
   pub emptied : Emptied (nonemitting_pass G.H G.w)
 
-abbrev pub NonemittingIs : (g : Setting) → (m m' : Lent) → (qs qs' eps : List ℕ) → Tables → Work → Passed → Type 0
+abbrev pub NonemittingIs : (g : Setting) → (m m' : Lent) → (qs qs' eps : List ℕ) → Tables → Work → Result Work Reason → Type 0
 NonemittingIs g m m' qs qs' eps T x r = (G : NonemittingGiven g m qs eps T x) → Nonemitted G m' qs' r
 
 -- ---- costs in the stores are f32 values
@@ -80,19 +79,19 @@ module _ {g : Setting} {m : Lent} {qs eps : List ℕ} {T : Tables} {x : Work} (G
     runs : Runs G.H G.w (nonemitting_pass G.H G.w)
     runs = pass_runs G.H (λ s a i. (G.ground.good.arc s a i).target) G.w (G.at.stood.rep.progress.size ∙ G.ground.states) costs G.none_queued G.none_requeued
 
-    ends_so : (m' : Lent) (qs' : List ℕ) (r : Passed) → EndedBy g m' qs' G.done (nonemitting_pass G.H G.w) r → Nonemitted G m' qs' r
+    ends_so : (m' : Lent) (qs' : List ℕ) (r : Result Work Reason) → EndedBy g m' qs' G.done (nonemitting_pass G.H G.w) r → Nonemitted G m' qs' r
     ends_so m' qs' r E = record { ends = E; emptied = runs_empty G.H G.w (nonemitting_pass G.H G.w) runs }
 
     -- a push is refused
-    pub push_stops : (qs' : List ℕ) (r : Passed) (n : ℕ) → r ≡ Refused n → PassedBy g m qs' G.done G.p (pushes_of push_given) r → Nonemitted G m qs' (Refused n)
+    pub push_stops : (qs' : List ℕ) (r : Result Work Reason) (n : Reason) → r ≡ Err n → PassedBy g m qs' G.done G.p (pushes_of push_given) r → Nonemitted G m qs' (Err n)
     unfolding nonemitting_pass
-    push_stops qs' r n e P = ends_so m qs' (Refused n) (go (pushes_of push_given) (subst (PassedBy g m qs' G.done G.p (pushes_of push_given)) e P))
+    push_stops qs' r n e P = ends_so m qs' (Err n) (go (pushes_of push_given) (subst (PassedBy g m qs' G.done G.p (pushes_of push_given)) e P))
       where
-        go : (o : Outcome ModelWork) → PassedBy g m qs' G.done G.p o (Refused n) → EndedBy g m qs' G.done (o >>= λ v. drain (fuel G.H.graph) G.H v) (Refused n)
-        go o (passed_refused j d z) = ended_refused n d z
+        go : (o : Outcome ModelWork) → PassedBy g m qs' G.done G.p o (Err n) → EndedBy g m qs' G.done (o >>= λ v. drain (fuel G.H.graph) G.H v) (Err n)
+        go o (passed_refused j z) = ended_refused n z
 
     -- all are pushed
-    module _ (qs' : List ℕ) (long : length qs' ≡ length qs) (r : Passed) (x' : Work) (e : r ≡ On x') (P : PassedBy g m qs' G.done G.p (pushes_of push_given) r) where
+    module _ (qs' : List ℕ) (long : length qs' ≡ length qs) (r : Result Work Reason) (x' : Work) (e : r ≡ Ok x') (P : PassedBy g m qs' G.done G.p (pushes_of push_given) r) where
       record Queue : Type 0 where
         v : ModelWork
         at : At g m qs' x' G.done G.p v
@@ -101,11 +100,11 @@ module _ {g : Setting} {m : Lent} {qs eps : List ℕ} {T : Tables} {x : Work} (G
       queue : Queue
       queue = go (pushes_of push_given) refl (subst (PassedBy g m qs' G.done G.p (pushes_of push_given)) e P)
         where
-          go : (o : Outcome ModelWork) → pushes_of push_given ≡ o → PassedBy g m qs' G.done G.p o (On x') → Queue
+          go : (o : Outcome ModelWork) → pushes_of push_given ≡ o → PassedBy g m qs' G.done G.p o (Ok x') → Queue
           go o q (passed_on {w} A) = record { v = w; at = A; is = q }
 
       starts : Starts G.H.graph G.w queue.v
-      starts = subst (Ok (Starts G.H.graph G.w)) queue.is (push_starts G.H G.w)
+      starts = subst (Accepted (Starts G.H.graph G.w)) queue.is (push_starts G.H G.w)
 
       pub drain_given : DrainGiven g m qs' eps T x'
       drain_given =
@@ -120,7 +119,7 @@ module _ {g : Setting} {m : Lent} {qs eps : List ℕ} {T : Tables} {x : Work} (G
             costs = subst Fits (sym starts.same.table) costs;
           }
 
-      pub drained : (m' : Lent) (qs'' : List ℕ) (r' : Passed) → DrainIs g m m' qs' qs'' eps T x' r' → Nonemitted G m' qs'' r'
+      pub drained : (m' : Lent) (qs'' : List ℕ) (r' : Result Work Reason) → DrainIs g m m' qs' qs'' eps T x' r' → Nonemitted G m' qs'' r'
       unfolding drain_given
       drained m' qs'' r' D =
           let d = D drain_given in

@@ -1,5 +1,5 @@
 -- How the pass begins: the active states with epsilon arcs are pushed, ascending. Assumes nothing.
-use Rattle.std.specs.Prelude.{◌≡◌, refl, ℕ, suc, ◌+◌, ◌≤◌, ◌<◌, Bool, true, false, List, [], ◌∷◌, ltb, ℤ, get_or, Float}
+use Rattle.std.specs.Prelude.{◌≡◌, refl, ℕ, suc, ◌+◌, ◌≤◌, ◌<◌, Bool, true, false, List, [], ◌∷◌, ltb, ℤ, get_or, Float, Result, Ok, Err}
 use Rattle.std.proofs.Common.{sym, ◌∙◌, drop-cons, lt-ltb, le-ltb}
 use Rattle.std.proofs.Math.Path.{ap, subst}
 use native.Mathlib.Omega.{arith}
@@ -11,7 +11,7 @@ use Rattle.model.specs.Graph.{has_eps}
 use Rattle.model.specs.Path.{Path, Token, Table}
 use Rattle.model.specs.Arrive.{Here, Work as ModelWork, push}
 use Rattle.model.specs.Passes.{push_from}
-use Rattle.model.specs.Accepted.{Ok}
+use Rattle.model.specs.Accepted.{Ok as Accepted}
 use Rattle.model.proofs.Accepted.{branches}
 use Rattle.tokens.specs.Layout.{place_in, held_at, NextActive}
 use Rattle.stores.specs.Shown.{Shown}
@@ -19,15 +19,14 @@ use Rattle.stores.specs.Tables.{active_at, skip_to}
 use Rattle.stores.specs.Rep.{Lent, lent}
 use Rattle.arrivals.specs.declared.Setting.{Setting}
 use Rattle.arcs.specs.declared.Work.{Work}
-use Rattle.arcs.specs.declared.Passed.{Passed}
-use Rattle.arcs.specs.declared.Passed.TheVariants.{Refused, On}
 use Rattle.arcs.specs.Passed.{Ground, At, PassedBy, passed_refused, passed_on, PushIs}
 use Rattle.arcs.specs.Finish.{pushed}
+use Rattle.refusals.specs.declared.Reason.{Reason}
 
 -- one state, as the code has it
-pub data StatePushed (eps qs qs' : List ℕ) (x : Work) (s : ℕ) : Passed → Type 0 where
-  state_stays : get_or eps s 0 ≡ 0 → qs' ≡ qs → StatePushed eps qs qs' x s (On x)
-  state_pushed : {r : Passed} → (get_or eps s 0 ≡ 0 → ⊥) → PushIs qs qs' x s r → StatePushed eps qs qs' x s r
+pub data StatePushed (eps qs qs' : List ℕ) (x : Work) (s : ℕ) : Result Work Reason → Type 0 where
+  state_stays : get_or eps s 0 ≡ 0 → qs' ≡ qs → StatePushed eps qs qs' x s (Ok x)
+  state_pushed : {r : Result Work Reason} → (get_or eps s 0 ≡ 0 → ⊥) → PushIs qs qs' x s r → StatePushed eps qs qs' x s r
 
 pub record PushGiven (g : Setting) (m : Lent) (qs eps : List ℕ) (x : Work) : Type 0 where
   pub H : Here
@@ -42,7 +41,7 @@ pub record PushGiven (g : Setting) (m : Lent) (qs eps : List ℕ) (x : Work) : T
 abbrev pub pushes_of : {g : Setting} {m : Lent} {qs eps : List ℕ} {x : Work} → PushGiven g m qs eps x → Outcome ModelWork
 pushes_of G = push_from G.H 0 G.w.table G.w
 
-abbrev pub PushesIs : (g : Setting) → (tokens qs qs' eps : List ℕ) → Work → Passed → Type 0
+abbrev pub PushesIs : (g : Setting) → (tokens qs qs' eps : List ℕ) → Work → Result Work Reason → Type 0
 PushesIs g tk qs qs' eps x r =
     (sm : List Float) (rs : List ℕ) (rl : List ℤ) (gs : List Float) (G : PushGiven g (lent tk sm rs rl gs) qs eps x) → PassedBy g (lent tk sm rs rl gs) qs' G.done G.p (pushes_of G) r
 
@@ -65,7 +64,7 @@ push_skips H w s rest = refl
 
 -- after it no state is told as requeued
 abbrev Clean : Outcome ModelWork → Type 0
-Clean = Ok (λ (v : ModelWork). v.requeued ≡ [])
+Clean = Accepted (λ (v : ModelWork). v.requeued ≡ [])
 
 push_clean : (H : Here) (s : ℕ) (w : ModelWork) → w.requeued ≡ [] → (b : Bool) → Clean (push_by H s w b)
 unfolding push
@@ -81,7 +80,7 @@ module _ {g : Setting} {m : Lent} {qs eps : List ℕ} {x : Work} (G : PushGiven 
   abbrev shown : Shown G.at.stood.rep.h x.used m.tokens m.sums g.side g.states G.w.table
   shown = G.at.stood.rep.progress
 
-  abbrev By : List ℕ → Outcome ModelWork → Passed → Type 0
+  abbrev By : List ℕ → Outcome ModelWork → Result Work Reason → Type 0
   By qs' = PassedBy g m qs' G.done G.p
 
   -- the states below s are done
@@ -100,13 +99,13 @@ module _ {g : Setting} {m : Lent} {qs eps : List ℕ} {x : Work} (G : PushGiven 
   far_start n = walk_on n (record { w' = G.w; at = G.at; clean = G.none_requeued; rest = refl })
 
   module _ {qs' : List ℕ} {x' : Work} {s : ℕ} (F : SoFar qs' x' s) where
-    pub far_end : g.states ≤ s → s ≤ g.states → By qs' (pushes_of G) (On x')
+    pub far_end : g.states ≤ s → s ≤ g.states → By qs' (pushes_of G) (Ok x')
     unfolding push_from
     far_end l k =
         let e : s ≡ length G.w.table = let z = shown.size in omega arith in
-        subst (λ (o : Outcome ModelWork). By qs' o (On x')) (sym (F.rest ∙ ap (λ (ts : Table). push_from G.H s ts F.w') (ap (λ (i : ℕ). drop i G.w.table) e ∙ drop-length G.w.table))) (passed_on F.at)
+        subst (λ (o : Outcome ModelWork). By qs' o (Ok x')) (sym (F.rest ∙ ap (λ (ts : Table). push_from G.H s ts F.w') (ap (λ (i : ℕ). drop i G.w.table) e ∙ drop-length G.w.table))) (passed_on F.at)
 
-    module _ (low : s < g.states) (held : held_at m.tokens (place_in g.side s) ≡ 0 → ⊥) (k : length qs' ≡ length qs) {qs'' : List ℕ} {r : Passed} (step : StatePushed eps qs' qs'' x' s r) where
+    module _ (low : s < g.states) (held : held_at m.tokens (place_in g.side s) ≡ 0 → ⊥) (k : length qs' ≡ length qs) {qs'' : List ℕ} {r : Result Work Reason} (step : StatePushed eps qs' qs'' x' s r) where
       abbrev stepped : Outcome ModelWork
       stepped = push_by G.H s F.w' (has_eps G.H.graph s)
 
@@ -119,24 +118,24 @@ module _ {g : Setting} {m : Lent} {qs eps : List ℕ} {x : Work} (G : PushGiven 
       told : {b : Bool} → ltb 0 (get_or eps s 0) ≡ b → stepped ≡ push_by G.H s F.w' b
       told e = ap (push_by G.H s F.w') (sym (G.ground.eps_is s low) ∙ e)
 
-      step_by : (r : Passed) → StatePushed eps qs' qs'' x' s r → By qs'' stepped r
+      step_by : (r : Result Work Reason) → StatePushed eps qs' qs'' x' s r → By qs'' stepped r
       step_by r (state_stays e q) =
-          subst (λ (o : Outcome ModelWork). By qs'' o (On x')) (sym (told (le-ltb 0 (get_or eps s 0) (omega arith)))) (subst (λ (z : List ℕ). By z (ok F.w') (On x')) (sym q) (passed_on F.at))
+          subst (λ (o : Outcome ModelWork). By qs'' o (Ok x')) (sym (told (le-ltb 0 (get_or eps s 0) (omega arith)))) (subst (λ (z : List ℕ). By z (ok F.w') (Ok x')) (sym q) (passed_on F.at))
       step_by r (state_pushed d P) =
           subst (λ (o : Outcome ModelWork). By qs'' o r) (sym (told (lt-ltb 0 (get_or eps s 0) (omega arith))))
           (pushed G.ground qs' qs'' k x' s low [] F.w' (subst (λ (v : ModelWork). At g m qs' x' G.done G.p v) (with_none F.w' F.clean) F.at) r P)
 
-      next_by : (o : Outcome ModelWork) → Clean o → pushes_of G ≡ (o >>= λ v. push_from G.H (suc s) (drop (suc s) G.w.table) v) → (x'' : Work) → By qs'' o (On x'') → SoFar qs'' x'' (suc s)
+      next_by : (o : Outcome ModelWork) → Clean o → pushes_of G ≡ (o >>= λ v. push_from G.H (suc s) (drop (suc s) G.w.table) v) → (x'' : Work) → By qs'' o (Ok x'') → SoFar qs'' x'' (suc s)
       next_by o c q x'' (passed_on {w} A) = record { w' = w; at = A; clean = c; rest = q }
 
-      stop_by : (o : Outcome ModelWork) → pushes_of G ≡ (o >>= λ v. push_from G.H (suc s) (drop (suc s) G.w.table) v) → (j : ℕ) → By qs'' o (Refused j) → By qs'' (pushes_of G) (Refused j)
-      stop_by o q j (passed_refused i d z) = subst (λ (u : Outcome ModelWork). By qs'' u (Refused j)) (sym q) (passed_refused j d z)
+      stop_by : (o : Outcome ModelWork) → pushes_of G ≡ (o >>= λ v. push_from G.H (suc s) (drop (suc s) G.w.table) v) → (j : Reason) → By qs'' o (Err j) → By qs'' (pushes_of G) (Err j)
+      stop_by o q j (passed_refused i z) = subst (λ (u : Outcome ModelWork). By qs'' u (Err j)) (sym q) (passed_refused j z)
 
-      pub far_stop : (j : ℕ) → r ≡ Refused j → By qs'' (pushes_of G) (Refused j)
-      far_stop j e = stop_by stepped goes j (step_by (Refused j) (subst (StatePushed eps qs' qs'' x' s) e step))
+      pub far_stop : (j : Reason) → r ≡ Err j → By qs'' (pushes_of G) (Err j)
+      far_stop j e = stop_by stepped goes j (step_by (Err j) (subst (StatePushed eps qs' qs'' x' s) e step))
 
-      pub far_next : (x'' : Work) → r ≡ On x'' → {b : ℕ} → NextActive m.tokens g.side (s + 1) g.states b → SoFar qs'' x'' b
+      pub far_next : (x'' : Work) → r ≡ Ok x'' → {b : ℕ} → NextActive m.tokens g.side (s + 1) g.states b → SoFar qs'' x'' b
       far_next x'' e {b} next =
           let one : s + 1 ≡ suc s = omega arith in
           walk_on (subst (λ (i : ℕ). NextActive m.tokens g.side i g.states b) one next)
-          (next_by stepped (push_clean G.H s F.w' F.clean (has_eps G.H.graph s)) goes x'' (step_by (On x'') (subst (StatePushed eps qs' qs'' x' s) e step)))
+          (next_by stepped (push_clean G.H s F.w' F.clean (has_eps G.H.graph s)) goes x'' (step_by (Ok x'') (subst (StatePushed eps qs' qs'' x' s) e step)))

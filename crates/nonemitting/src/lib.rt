@@ -8,17 +8,18 @@ ghost use Rattle.nonemitting.specs.Expand.{graph_tables, ExpandGiven, ExpandIs};
 ghost use Rattle.nonemitting.specs.Drain.{DrainGiven, DrainIs};
 ghost use Rattle.nonemitting.specs.Pass.{NonemittingGiven, NonemittingIs};
 
-use arcs::{Pass, Passed, Work};
+use arcs::{Pass, Work};
 use arrivals::Setting;
+use refusals::Reason;
 use tokens::next_active;
 
 // A state that has epsilon arcs is pushed.
-fn push_state(queue: &mut [u32], eps: &[u8], w: Work, s: u32) -> Passed
+fn push_state(queue: &mut [u32], eps: &[u8], w: Work, s: u32) -> Result<Work, Reason>
     requires { s < length eps.now }
     ensures { StatePushed eps.now queue.old queue.new w s result }
 {
     if eps[s as usize] == 0 {
-        return Passed::On(w);
+        return Ok(w);
     }
     arcs::push(queue, w, s)
 }
@@ -30,20 +31,17 @@ fn push_active(
     eps: &[u8],
     setting: Setting,
     before: Work,
-) -> Passed
+) -> Result<Work, Reason>
     requires { (setting.side ≤ 1) × (setting.states * 8 ≤ length tokens.now) × (setting.states ≤ length eps.now) }
     ensures { PushesIs setting tokens.now queue.old queue.new eps.now before result }
 {
     let mut w = before;
     let mut s = next_active(tokens, setting.side, 0, setting.states);
     while s < setting.states {
-        match push_state(queue, eps, w, s) {
-            Passed::Refused(n) => return Passed::Refused(n),
-            Passed::On(next) => w = next,
-        }
+        w = push_state(queue, eps, w, s)?;
         s = next_active(tokens, setting.side, s + 1, setting.states);
     }
-    Passed::On(w)
+    Ok(w)
 }
 
 // A popped state's token, copied, unless it is at or above the cutoff. The pass reads no frame: an empty part stands for its log-likelihoods.
@@ -65,23 +63,20 @@ fn expand(
     setting: Setting,
     w: Work,
     s: u32,
-) -> Passed
+) -> Result<Work, Reason>
     requires { ExpandGiven setting (lent tokens.old sums.old records.old labels.old gaps.old) queue.old eps.now (graph_tables offsets.now ilabels.now olabels.now weights.now nextstates.now tid2pdf.now tid2phone.now) w s }
     ensures { ExpandIs setting (lent tokens.old sums.old records.old labels.old gaps.old) (lent tokens.new sums.new records.new labels.new gaps.new) queue.old queue.new eps.now (graph_tables offsets.now ilabels.now olabels.now weights.now nextstates.now tid2pdf.now tid2phone.now) w s result }
 {
     if !tokens::is_active(tokens, setting.side, s) {
-        return Passed::On(w);
+        return Ok(w);
     }
     let source = tokens::token_at(tokens, sums, setting.side, s);
     if w.cutoff <= source.cost {
-        return Passed::On(w);
+        return Ok(w);
     }
     let handed = Work {
-        used: w.used,
-        seq: w.seq,
         link: source.link,
-        cutoff: w.cutoff,
-        queued: w.queued,
+        ..w
     };
     arcs::arrive_state(
         tokens,
@@ -125,7 +120,7 @@ fn drain(
     tid2phone: &[i32],
     setting: Setting,
     before: Work,
-) -> Passed
+) -> Result<Work, Reason>
     requires { DrainGiven setting (lent tokens.old sums.old records.old labels.old gaps.old) queue.old eps.now (graph_tables offsets.now ilabels.now olabels.now weights.now nextstates.now tid2pdf.now tid2phone.now) before }
     ensures { DrainIs setting (lent tokens.old sums.old records.old labels.old gaps.old) (lent tokens.new sums.new records.new labels.new gaps.new) queue.old queue.new eps.now (graph_tables offsets.now ilabels.now olabels.now weights.now nextstates.now tid2pdf.now tid2phone.now) before result }
 {
@@ -134,21 +129,15 @@ fn drain(
         let count = w.queued;
         let s = queue[count - 1];
         let popped = Work {
-            used: w.used,
-            seq: w.seq,
-            link: w.link,
-            cutoff: w.cutoff,
             queued: count - 1,
+            ..w
         };
-        match expand(
+        w = expand(
             tokens, sums, records, labels, gaps, queue, eps, offsets, ilabels, olabels, weights,
             nextstates, tid2pdf, tid2phone, setting, popped, s,
-        ) {
-            Passed::Refused(n) => return Passed::Refused(n),
-            Passed::On(next) => w = next,
-        }
+        )?;
     }
-    Passed::On(w)
+    Ok(w)
 }
 
 // The whole pass, from an empty queue.
@@ -169,15 +158,13 @@ pub fn nonemitting(
     tid2phone: &[i32],
     setting: Setting,
     before: Work,
-) -> Passed
+) -> Result<Work, Reason>
     requires { NonemittingGiven setting (lent tokens.old sums.old records.old labels.old gaps.old) queue.old eps.now (graph_tables offsets.now ilabels.now olabels.now weights.now nextstates.now tid2pdf.now tid2phone.now) before }
     ensures { NonemittingIs setting (lent tokens.old sums.old records.old labels.old gaps.old) (lent tokens.new sums.new records.new labels.new gaps.new) queue.old queue.new eps.now (graph_tables offsets.now ilabels.now olabels.now weights.now nextstates.now tid2pdf.now tid2phone.now) before result }
 {
-    match push_active(tokens, queue, eps, setting, before) {
-        Passed::Refused(n) => Passed::Refused(n),
-        Passed::On(w) => drain(
-            tokens, sums, records, labels, gaps, queue, eps, offsets, ilabels, olabels, weights,
-            nextstates, tid2pdf, tid2phone, setting, w,
-        ),
-    }
+    let w = push_active(tokens, queue, eps, setting, before)?;
+    drain(
+        tokens, sums, records, labels, gaps, queue, eps, offsets, ilabels, olabels, weights,
+        nextstates, tid2pdf, tid2phone, setting, w,
+    )
 }

@@ -1,7 +1,6 @@
 -- A value's place among those of its format, a number below 2 ^ 32 for binary32 and 2 ^ 64 for binary64: it grows strictly with the value, and is the same at -0 and +0.
 -- Assumes nothing.
 use Rattle.std.specs.Prelude.{ℕ, ◌+◌, ◌-◌, ◌*◌, ◌/◌, ◌^◌, true, false, ℤ}
-use Rattle.std.proofs.Math.Nat as Nat
 use lib.Ieee.{Float, nan, inf, fin, Format, prec, low, hid, ones, top, up, down, size}
 
 -- the magnitude's pattern, by how many units it is

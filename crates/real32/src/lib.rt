@@ -13,15 +13,15 @@ pub fn is_tame(x: f32) -> bool
     x < 1267650600228229401496703205376.0 && -1267650600228229401496703205376.0 < x
 }
 
-// +∞, which no literal or constant can be.
+// +∞.
 pub fn infinity() -> f32
     ensures { result ≡ inf false }
 {
-    1.0 / 0.0
+    f32::INFINITY
 }
 
 pub fn is_finite(x: f32) -> bool
     ensures { result ≡ finite x }
 {
-    x < infinity() && -infinity() < x
+    x.is_finite()
 }

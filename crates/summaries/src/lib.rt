@@ -80,7 +80,7 @@ fn key_from(history_keys: &[u64], r: u32, prev: u32, word: i32, joined: bool) ->
     ensures { result ≡ cond joined r (key_over (key_at history_keys.now true prev) word) }
 {
     if joined {
-        return r as u64;
+        return u64::from(r);
     }
     key_over(key_at(history_keys, prev, true), word)
 }
@@ -164,10 +164,8 @@ pub fn fill(
     requires { (Chains records.now labels.now used) × (used * 2 ≤ length history_keys.old) × (used * 2 ≤ length history_skips.old) }
     ensures { Summed records.now labels.now used history_keys.new history_skips.new }
 {
-    let mut k = 0;
-    while k < used {
+    for k in 0..used {
         sum_record(records, labels, used, k, history_keys, history_skips);
-        k += 1;
     }
 }
 

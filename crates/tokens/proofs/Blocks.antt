@@ -1,13 +1,14 @@
 -- A pass over the active states, block by block. Assumes nothing.
 use mathlib.Core.Path.{◌≡◌, sym, ap, ap₂, ◌∙◌}
-use Prim.Native.Nat.{ℕ, ◌+◌, ◌-◌, ◌*◌, ◌/◌, ◌%◌, ◌^◌, ◌≤◌, ◌<◌}
+use Prim.Native.Nat.{ℕ, ◌+◌, ◌-◌, ◌*◌, ◌/◌, ◌%◌, ◌^◌, ◌≤◌, ◌<◌, min}
+use native.Mathlib.Nat.{le-min, min-le_left, min-le_right}
 use native.Mathlib.Omega.{arith}
 use mathlib.Core.List.{List}
 use lib.Count.{count_trailing_zeros}
 use lib.Dec.{ltb}
 use lib.Pow.{shr_le}
 use Rattle.lists.specs.Tests.{case, lt_or_le}
-use Rattle.tokens.specs.Layout.{place_in, active_in, requeued_in, block_of, bit_of, bit_at, held_at, requeued_at, FirstBit, NextBlock, NextActive}
+use Rattle.tokens.specs.Layout.{place_in, active_in, requeued_in, block_of, bit_of, bit_at, held_at, requeued_at, FirstBit, NextActive}
 use Rattle.tokens.specs.Held.{held_marked, held_unmarked, held_test}
 use Rattle.tokens.proofs.Bits.{bit_of_zero, bit_shifted, bit_above, trailing_none, trailing_some}
 use Rattle.tokens.proofs.Marks.{block_of_lem, bit_of_lem}
@@ -80,26 +81,26 @@ module _ (tk : List ℕ) (b : ℕ) (low : b ≤ 1) where
         omega (arith, z, held_marked tk (place_in b s) (mark_is s ∙ ap₂ (λ (x y : ℕ). bit_at (active_in tk (place_in b x)) y) block bit ∙ f.is_set l))
 
   -- no mark in the rest of a block, and then empty blocks
-  pub passed : (s j k n : ℕ) → FirstBit (active_in tk (place_in b (s / 16))) (s % 16) j → 16 ≤ j → NextBlock tk b (s / 16 + 1) n k
-      → (i : ℕ) → s ≤ i → i < k * 16 → held_at tk (place_in b i) ≡ 0
-  passed s j k n f full next i a l =
+  pub passed : (s j : ℕ) → FirstBit (active_in tk (place_in b (s / 16))) (s % 16) j → 16 ≤ j
+      → (i : ℕ) → s ≤ i → (s / 16 + 1 ≤ i / 16 → active_in tk (place_in b (i / 16)) ≡ 0) → held_at tk (place_in b i) ≡ 0
+  passed s j f full i a empty =
       case (lt_or_le (i / 16) (s / 16 + 1))
       (λ h. before_first (s / 16) (s % 16) j f i (omega arith) (omega arith))
-      (λ h. empty_block i (next.none (i / 16) h (omega arith)))
+      (λ h. empty_block i (empty h))
 
   -- a block that is found has a mark
-  pub found_in : (j k n r : ℕ) → NextBlock tk b j n k → k * 16 < n → FirstBit (active_in tk (place_in b k)) 0 r → r < 16
-  found_in j k n r next l f = f.found (λ e. next.some l (omega (arith, e)))
+  pub found_in : (k r : ℕ) → (active_in tk (place_in b k) ≡ 0 → ⊥) → FirstBit (active_in tk (place_in b k)) 0 r → r < 16
+  found_in k r some f = f.found (λ e. some (omega (arith, e)))
 
   -- m, where it is among the n states
   pub next_is : (s n m r : ℕ) → s ≤ n → s ≤ m → ((i : ℕ) → s ≤ i → i < m → held_at tk (place_in b i) ≡ 0) → (held_at tk (place_in b m) ≡ 0 → ⊥)
-      → (r ≤ m) × (r ≤ n) × (r < n → r ≡ m) → NextActive tk b s n r
-  next_is s n m r a l none active (below, upto, is) =
+      → r ≡ min m n → NextActive tk b s n r
+  next_is s n m r a l none active e =
       record {
-        from = case (lt_or_le r n) (λ h. omega (arith, is h)) (λ h. omega arith);
-        upto = upto;
-        none = λ i h k. none i h (omega arith);
-        active = λ h z. active (ap (λ (x : ℕ). held_at tk (place_in b x)) (sym (is h)) ∙ z);
+        from = omega (arith, le-min a l, e);
+        upto = omega (arith, min-le_right m n);
+        none = λ i h k. none i h (omega (arith, min-le_left m n));
+        active = λ h z. active (ap (λ (x : ℕ). held_at tk (place_in b x)) (let q : m ≡ r = omega arith in q) ∙ z);
       }
 
   pub none_next : (s n : ℕ) → s ≤ n → ((i : ℕ) → s ≤ i → i < n → held_at tk (place_in b i) ≡ 0) → NextActive tk b s n n

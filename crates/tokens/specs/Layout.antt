@@ -1,5 +1,5 @@
 -- The layout of the token tables. The strides stand in these accessors, in the code that reads and writes the tables, compaction's too, and in every contract that asks for places.
-use Rattle.std.specs.Prelude.{◌≡◌, ℕ, zero, suc, ◌+◌, ◌-◌, ◌*◌, ◌/◌, ◌%◌, ◌^◌, ◌≤◌, ◌<◌, List, get_or, set, Float}
+use Rattle.std.specs.Prelude.{◌≡◌, ℕ, zero, suc, ◌+◌, ◌-◌, ◌*◌, ◌/◌, ◌%◌, ◌^◌, ◌≤◌, ◌<◌, List, get_or, set, Float, Option, MatchOption}
 use Rattle.std.specs.Int.Bits.{bit_or}
 use Rattle.std.specs.Float.{nan}
 use Rattle.tokens.specs.declared.Token.{Token}
@@ -102,12 +102,16 @@ pub record FirstBit (n j r : ℕ) : Type 0 where
   pub is_set : r < 16 → bit_at n r ≡ 1
   pub found : (n / 2 ^ j ≡ 0 → ⊥) → r < 16
 
--- the first block from k on with an active state, of those that n states make
-pub record NextBlock (tk : List ℕ) (b k n r : ℕ) : Type 0 where
+-- block r is the first from k on with an active state, of those that n states make
+pub record BlockIs (tk : List ℕ) (b k n r : ℕ) : Type 0 where
   pub from : k ≤ r
-  pub upto : r ≤ n
+  pub upto : r * 16 < n
   pub none : (i : ℕ) → k ≤ i → i < r → active_in tk (place_in b i) ≡ 0
-  pub some : r * 16 < n → active_in tk (place_in b r) ≡ 0 → ⊥
+  pub some : active_in tk (place_in b r) ≡ 0 → ⊥
+
+-- that block, or none where none from k on has one
+abbrev pub NextBlock : List ℕ → (b k n : ℕ) → Option ℕ → Type 0
+NextBlock tk b k n r = MatchOption r ((i : ℕ) → k ≤ i → i * 16 < n → active_in tk (place_in b i) ≡ 0) (BlockIs tk b k n)
 
 -- the first active state from s on, n where there is none
 pub record NextActive (tk : List ℕ) (b s n r : ℕ) : Type 0 where

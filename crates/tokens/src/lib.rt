@@ -6,6 +6,8 @@
 #![tactic(auto)]
 
 ghost use Rattle.std.specs.Prelude.{◌≡◌, ◌+◌, ◌-◌, ◌*◌, ◌≤◌, ◌<◌, ltb, length};
+ghost use Rattle.std.specs.Iterator.{at_most};
+ghost use Rattle.tokens.specs.Walk.{Walks, StepsTo, Over};
 ghost use Rattle.tokens.specs.Layout.{place_in, active_in, requeued_in, bit_at, held_at, requeued_at, cost_at, cell_at, token_of, marked, TokenPut, Cleared, Requeued, FirstBit, NextBlock, NextActive};
 
 // A token: its two sums, its newest record (0 for none), its phone and its place in the order of making.
@@ -45,7 +47,7 @@ fn has_bit(n: u32, j: u32) -> bool
     0 < (n >> j) % 2
 }
 
-// The first bit from `j` on that is set, 16 where there is none.
+// The first bit from `j` on that is set, 16 where there is none: a block that is known to have a mark then needs no second case.
 fn first_bit(n: u32, j: u32) -> u32
     requires { (n < 65536) × (j < 16) }
     ensures { FirstBit n j result }
@@ -154,36 +156,26 @@ pub fn clear(tokens: &mut [u32], side: u32, states: u32)
     requires { (side ≤ 1) × (states * 8 ≤ length tokens.old) }
     ensures { Cleared tokens.old tokens.new side states }
 {
-    let mut block = 0;
-    while block * 16 < states as usize {
-        let p = block * 2 + side as usize;
+    for block in 0..states.div_ceil(16) {
+        let p = block as usize * 2 + side as usize;
         tokens[p * 4 + 3] = 0;
-        block += 1;
     }
 }
 
-// The first block from `from` on with an active state; where there is none, one past those of the states.
-fn next_block(tokens: &[u32], side: u32, from: u32, states: u32) -> u32
-    requires { (side ≤ 1) × (from ≤ states) × (states * 8 ≤ length tokens.now) }
+// The first block from `from` on with an active state, of those that the states make.
+fn next_block(tokens: &[u32], side: u32, from: u32, states: u32) -> Option<u32>
+    requires { (side ≤ 1) × (states * 8 ≤ length tokens.now) }
     ensures { NextBlock tokens.now side from states result }
 {
-    let mut block = from;
-    while block as usize * 16 < states as usize {
+    for block in from..states.div_ceil(16) {
         if active_in(tokens, side, block) != 0 {
-            return block;
+            return Some(block);
         }
-        block += 1;
     }
-    block
+    None
 }
 
-fn lesser(a: u32, b: u32) -> u32
-    ensures { (result ≤ a) × (result ≤ b) × (result < b → result ≡ a) }
-{
-    if a < b { a } else { b }
-}
-
-// The first active state from `s` on, or `states` where there is none.
+// The first active state from `s` on, or `states` where there is none, so that a walk of the marks ends there with no second case. `active` gives them one by one.
 pub fn next_active(tokens: &[u32], side: u32, s: u32, states: u32) -> u32
     requires { (side ≤ 1) × (s ≤ states) × (states * 8 ≤ length tokens.now) }
     ensures { NextActive tokens.now side s states result }
@@ -194,12 +186,51 @@ pub fn next_active(tokens: &[u32], side: u32, s: u32, states: u32) -> u32
     let here = s / 16;
     let j = first_bit(active_in(tokens, side, here), s % 16);
     if j < 16 {
-        return lesser(here * 16 + j, states);
+        return (here * 16 + j).min(states);
     }
-    let next = next_block(tokens, side, here + 1, states);
-    if states as usize <= next as usize * 16 {
-        return states;
+    match next_block(tokens, side, here + 1, states) {
+        Some(next) => (next * 16 + first_bit(active_in(tokens, side, next), 0)).min(states),
+        None => states,
     }
-    let i = first_bit(active_in(tokens, side, next), 0);
-    lesser(next * 16 + i, states)
+}
+
+// The active states from `next` on, in ascending order.
+#[derive(Drop)]
+pub struct ActiveStates<'a> {
+    tokens: &'a [u32],
+    side: u32,
+    states: u32,
+    next: u32,
+}
+
+impl Iterator for ActiveStates<'_> {
+    type Item = u32;
+
+    ghost can_next = { Walks };
+
+    ghost next_gives = { StepsTo };
+
+    ghost remaining = { λ a. at_most (a.states - a.next) };
+
+    fn next(&mut self) -> Option<u32> {
+        let s = next_active(self.tokens, self.side, self.next, self.states);
+        if s == self.states {
+            return None;
+        }
+        self.next = s + 1;
+        Some(s)
+    }
+}
+
+// All active states of a table.
+pub fn active(tokens: &[u32], side: u32, states: u32) -> ActiveStates<'_>
+    requires { (side ≤ 1) × (states * 8 ≤ length tokens.now) }
+    ensures { (Over tokens.now side states result) × (result.next ≡ 0) }
+{
+    ActiveStates {
+        tokens,
+        side,
+        states,
+        next: 0,
+    }
 }

@@ -1,10 +1,7 @@
 -- By what came of the arc.
 use mathlib.Core.Path.{refl}
-use Rattle.arcs.specs.Finish.{finish_refused, finish_cut, finish_stays, finish_wins, finish_joins}
+use Rattle.arcs.specs.Finish.{finish_cut, finish_stays, finish_wins, finish_joins}
 use Rattle.arcs.proofs.finish.Goals as goal
-
-pub returns-in-Refused : goal.returns-in-Refused
-returns-in-Refused c = finish_refused _ c.in-Refused.is refl
 
 pub returns-in-Cut : goal.returns-in-Cut
 returns-in-Cut c = finish_cut c.in-Cut.is refl refl

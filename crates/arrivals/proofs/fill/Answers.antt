@@ -1,9 +1,10 @@
 -- The new token's record, or its refusal.
+use Rattle.std.proofs.lemmas.Result.{err_from_is_err_and}
 use Rattle.arrivals.specs.Settled.{fill_refused, fill_wins}
 use Rattle.arrivals.proofs.fill.Goals as goal
 
-pub returns-in-Refused : goal.returns-in-Refused
-returns-in-Refused c = fill_refused (rw c.in-Refused.is at c.put_on.ensures)
+pub returns-in_err-on : goal.returns-in_err-on
+returns-in_err-on c = let p = err_from_is_err_and c.from_residual.result c.from_residual.ensures.1 in rw (p.1, p.2) (fill_refused c.in_err-on.ensures)
 
-pub returns-in-On : goal.returns-in-On
-returns-in-On c = rw (c.new_token.ensures, c.wrapping_add_u32-seq.ensures.value) (fill_wins (rw c.in-On.is at c.put_on.ensures))
+pub returns : goal.returns
+returns c = rw c.new_token.ensures (fill_wins c.in_ok-on.ensures)

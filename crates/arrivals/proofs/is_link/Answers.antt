@@ -1,5 +1,5 @@
 -- One test after the other.
-use Rattle.std.proofs.Common.{◌≡◌, ℕ, zero, suc, not, eqb, pos, refl, ap, ◌∙◌}
+use Rattle.std.proofs.Common.{◌≡◌, ℕ, zero, suc, not, eqb, pos, refl, ap, ne_eqb, ◌∙◌}
 use lib.Dec.{eqb-suc-zero}
 use Rattle.model.specs.Basics.{nonzero}
 use Rattle.model.specs.Ints.{nonzero_yes, nonzero_no}
@@ -10,8 +10,8 @@ pos_nonzero : (n : ℕ) → not (eqb n 0) ≡ nonzero (pos n)
 pos_nonzero zero = refl
 pos_nonzero (suc n) = rw (eqb-suc-zero n)
 
-pub returns-then-word-ne0 : goal.returns-then-word-ne0
-returns-then-word-ne0 c = rw (nonzero_yes c.args.a.word c.if-word-ne0.true)
+pub returns-then-a-ne0 : goal.returns-then-a-ne0
+returns-then-a-ne0 c = rw (nonzero_yes c.args.a.word c.if-a-ne0.true, ne_eqb _ 0 c.if-a-ne0.true)
 
-pub returns : goal.returns
-returns c = let z = c.args.a.word in rw (nonzero_no z (record { sfits = search }) c.if-word-ne0.false) (pos_nonzero c.starts.result ∙ ap (λ (n : ℕ). nonzero (pos n)) c.starts.ensures)
+pub returns-else-a-ne0 : goal.returns-else-a-ne0
+returns-else-a-ne0 c = let z = c.args.a.word in rw (nonzero_no z (record { sfits = search }) c.if-a-ne0.false) (pos_nonzero c.starts.result ∙ ap (λ (n : ℕ). nonzero (pos n)) c.starts.ensures)

@@ -1,6 +1,6 @@
 -- What becomes of the arrival.
-use Rattle.std.proofs.Common.{sym}
-use Rattle.joins.specs.declared.Keeping.TheVariants.{Dropped, Full, Joined}
+use Rattle.std.proofs.Common.{Some, None, Ok, Err}
+use Rattle.std.proofs.lemmas.Result.{err_from_is_err_and}
 use Rattle.model.specs.Ints.{back}
 use Rattle.arrivals.specs.Settled.{lose_keeps, lose_asks}
 use Rattle.arrivals.proofs.lose.Goals as goal
@@ -8,11 +8,11 @@ use Rattle.arrivals.proofs.lose.Goals as goal
 pub keep-requires : goal.keep-requires
 keep-requires c = rw c.new_token-lost.ensures (lose_asks _ _ _ _ _ c.requires c.args.a _)
 
-pub returns-in-Dropped : goal.returns-in-Dropped
-returns-in-Dropped c = lose_keeps Dropped (rw (sym c.new_token-lost.ensures, sym c.margin_of.ensures, sym c.starts.ensures) (rw (c.in-Dropped.is, back c.args.a.word search) at c.keep.ensures))
+pub returns-in_err-kept : goal.returns-in_err-kept
+returns-in_err-kept c = let p = err_from_is_err_and c.from_residual.result c.from_residual.ensures.1 in rw (p.1, p.2) (lose_keeps (Err _) (rw (c.new_token-lost.ensures, c.starts.ensures, back c.args.a.word search) at c.in_err-kept.ensures))
 
-pub returns-in-Full : goal.returns-in-Full
-returns-in-Full c = lose_keeps Full (rw (sym c.new_token-lost.ensures, sym c.margin_of.ensures, sym c.starts.ensures) (rw (c.in-Full.is, back c.args.a.word search) at c.keep.ensures))
+pub returns-in-None : goal.returns-in-None
+returns-in-None c = lose_keeps (Ok None) (rw (c.new_token-lost.ensures, c.starts.ensures, back c.args.a.word search, c.in-None.is) at c.in_ok-kept.ensures)
 
-pub returns-in-Joined : goal.returns-in-Joined
-returns-in-Joined c = rw c.with_link.ensures (lose_keeps (Joined c.in-Joined.r) (rw (sym c.new_token-lost.ensures, sym c.margin_of.ensures, sym c.starts.ensures) (rw (c.in-Joined.is, back c.args.a.word search) at c.keep.ensures)))
+pub returns-in-Some : goal.returns-in-Some
+returns-in-Some c = rw c.with_link.ensures (lose_keeps (Ok (Some _)) (rw (c.new_token-lost.ensures, c.starts.ensures, back c.args.a.word search, c.in-Some.is) at c.in_ok-kept.ensures))

@@ -14,4 +14,4 @@ pub returns-then-used-setting : goal.returns-then-used-setting
 returns-then-used-setting c = record_refused (sym c.is_tame.ensures ∙ c.if-not-is_tame.false) (sym c.is_link.ensures ∙ c.if-not-is_link.false) c.if-used-setting.true refl refl
 
 pub returns : goal.returns
-returns c = link_on_it {r = c.put_link-link.result} (sym c.is_tame.ensures ∙ c.if-not-is_tame.false) (sym c.is_link.ensures ∙ c.if-not-is_link.false) (omega arith) (rw (sym c.starts-starts.ensures) (rw (back c.args.a.word search) at c.put_link-link.ensures))
+returns c = link_on_it {r = c.put_link-link.result} (sym c.is_tame.ensures ∙ c.if-not-is_tame.false) (sym c.is_link.ensures ∙ c.if-not-is_link.false) (omega arith) (rw (sym c.starts.ensures) (rw (back c.args.a.word search) at c.put_link-link.ensures))

@@ -1,25 +1,22 @@
--- Those below i are tame.
-use mathlib.Core.Path.{sym, ap, ◌∙◌}
-use Prim.Native.Nat.{◌+◌}
-use native.Mathlib.Omega.{arith}
+-- Each is tested, until one fails.
+use mathlib.Core.Path.{◌≡◌, refl, ap, ◌∙◌}
 use mathlib.Core.Bool.{Bool, ◌&&◌}
-use lib.ListN.{drop, drop_of_length-le}
-use lib.Ieee.{nan}
+use mathlib.Core.List.{List, [], ◌∷◌}
+use lib.Ieee.{Float}
+use borrow.Author.Rules.{rules}
+use Rattle.std.specs.List.{list_all}
+use Rattle.std.proofs.lemmas.Iterator.{YieldsList-from_slice}
+use Rattle.std.proofs.lemmas.Iterator.Search.{all_from_yields_List}
 use Rattle.lists.specs.Lists.{all}
 use Rattle.real32.specs.Small.{tame}
-use Rattle.checks.specs.Frame.{all_next}
 use Rattle.checks.proofs.all_tame.Goals as goal
 
-pub returns-then-not-is_tame : goal.returns-then-not-is_tame
-returns-then-not-is_tame c = let ls = c.args.loglikes.now in
-    let i = c.loop-i.i in
-    sym (c.loop-i.invariant.1 ∙ all_next tame ls i nan c.loop-i-test.true ∙ ap (λ (b : Bool). b && all tame (drop (i + 1) ls)) (sym c.is_tame.ensures ∙ c.if-not-is_tame.true))
-
-pub loop-i-preserved : goal.loop-i-preserved
-loop-i-preserved c = let ls = c.args.loglikes.now in
-    let i = c.loop-i.i in
-    let h = c.loop-i-test.true in
-    (omega arith, c.loop-i.invariant.1 ∙ all_next tame ls i nan h ∙ ap (λ (b : Bool). b && all tame (drop (i + 1) ls)) (sym c.is_tame.ensures ∙ c.if-not-is_tame.false))
+-- std's test of a whole list is the definition's
+same : (p : Float → Bool) (xs : List Float) → list_all p xs ≡ all p xs
+same p [] = refl
+same p (x ∷ xs) = ap (λ (b : Bool). p x && b) (same p xs)
 
 pub returns : goal.returns
-returns c = let ls = c.args.loglikes.now in sym (c.loop-i.invariant.1 ∙ ap (all tame) (drop_of_length-le ls {i = c.loop-i.i} c.loop-i-test.false))
+returns c =
+    all_from_yields_List tame _ _ _ c.all.ensures.ran (YieldsList-from_slice c.args.loglikes.now cc) (λ x b q k. search rules)
+    ∙ same tame c.args.loglikes.now

@@ -19,7 +19,7 @@ loop-p-preserved c = let l = c.loop-p in
     elim c.if-has_token.branch [
       | then-has_token w ↦
           let e = held_is tk l.p (some_held _ (sym c.has_token.ensures ∙ w.if-has_token.true)) in
-          (omega arith, c.if-has_token.auto.records ∙ l.invariant.1, rw w.records-is (held_more tk _ _ _ l.invariant.2 (get_or tk (l.p * 4) 0) _ e w.mark.ensures))
+          rw w.records-is (held_more tk _ _ _ l.invariant (get_or tk (l.p * 4) 0) _ e w.mark.ensures)
       | else-has_token w ↦
-          (omega arith, rw w.records-is l.invariant.1, rw w.records-is (held_skip tk _ _ _ l.invariant.2 (none_held _ (sym c.has_token.ensures ∙ w.if-has_token.false))))
+          rw w.records-is (held_skip tk _ _ _ l.invariant (none_held _ (sym c.has_token.ensures ∙ w.if-has_token.false)))
     ]

@@ -11,7 +11,7 @@ use Rattle.compaction.proofs.renumber.Goals as goal
 pub new_number-requires : goal.new_number-requires
 new_number-requires c = let l = c.loop-place in
     let e = held_is l.tokens l.place (some_held _ (sym c.has_token.ensures ∙ c.if-has_token.true)) in
-    omega (arith, e, l.invariant.2.others.beyond l.place (omega arith), c.requires.1 l.place c.loop-place-test.true)
+    omega (arith, e, l.invariant.others.beyond l.place (omega arith), c.requires.1 l.place c.loop-place-test.true)
 
 pub loop-place-preserved : goal.loop-place-preserved
 loop-place-preserved c = let l = c.loop-place in
@@ -19,7 +19,7 @@ loop-place-preserved c = let l = c.loop-place in
     elim c.if-has_token.branch [
       | then-has_token w ↦
           let e = held_is l.tokens l.place (some_held _ (sym c.has_token.ensures ∙ w.if-has_token.true)) in
-          (omega arith, c.if-has_token.auto.tokens ∙ l.invariant.1, rw w.tokens-is (renumbered_more rs _ l.tokens l.place l.invariant.2 w.new_number.result (omega arith) (get_or l.tokens (l.place * 4) 0) e w.new_number.ensures))
+          rw w.tokens-is (renumbered_more rs _ l.tokens l.place l.invariant w.new_number.result (omega arith) (get_or l.tokens (l.place * 4) 0) e w.new_number.ensures)
       | else-has_token w ↦
-          (omega arith, c.if-has_token.auto.tokens ∙ l.invariant.1, rw w.tokens-is (renumbered_skip rs _ _ _ l.invariant.2 (none_held _ (sym c.has_token.ensures ∙ w.if-has_token.false))))
+          rw w.tokens-is (renumbered_skip rs _ _ _ l.invariant (none_held _ (sym c.has_token.ensures ∙ w.if-has_token.false)))
     ]

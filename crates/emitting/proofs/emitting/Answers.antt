@@ -1,6 +1,7 @@
 -- The cutoffs, the emptied table, the first look, and all states.
 use mathlib.Core.Path.{refl}
 use native.Mathlib.Omega.{arith}
+use Rattle.std.proofs.lemmas.Result.{err_from_is_err_and}
 use Rattle.emitting.specs.Whole.{costs, look_given, look_refused, states_given, states_done}
 use Rattle.emitting.proofs.emitting.Goals as goal
 
@@ -19,8 +20,8 @@ look-requires c = look_given c.requires.0 _ _ (c.get_cutoff-cut.ensures _ (costs
 pub emit_states-requires : goal.emit_states-requires
 emit_states-requires c = states_given c.requires.0 _ _ (c.get_cutoff-cut.ensures _ (costs c.requires.0) c.requires.0.fine) _ c.offset_of.ensures _ c.clear.ensures c.clear.auto.tokens _
 
-pub returns-in-Refused : goal.returns-in-Refused
-returns-in-Refused c = λ G. look_refused G _ _ (c.get_cutoff-cut.ensures _ (costs G) G.fine) _ refl _ c.clear.ensures c.clear.auto.tokens _ c.look.result (c.look.ensures (look_given G _ _ (c.get_cutoff-cut.ensures _ (costs G) G.fine))) c.in-Refused.is
+pub returns-in_err-next : goal.returns-in_err-next
+returns-in_err-next c = let p = err_from_is_err_and c.from_residual.result c.from_residual.ensures.1 in rw (p.1, p.2) (λ G. look_refused G _ _ (c.get_cutoff-cut.ensures _ (costs G) G.fine) _ refl _ c.clear.ensures c.clear.auto.tokens _ c.look.result (c.look.ensures (look_given G _ _ (c.get_cutoff-cut.ensures _ (costs G) G.fine))) c.in_err-next.was)
 
-pub returns-in-Next : goal.returns-in-Next
-returns-in-Next c = λ G. states_done G _ _ (c.get_cutoff-cut.ensures _ (costs G) G.fine) _ c.offset_of.ensures _ c.clear.ensures c.clear.auto.tokens _ _ _ c.look.result _ (c.look.ensures (look_given G _ _ (c.get_cutoff-cut.ensures _ (costs G) G.fine))) c.in-Next.is c.emit_states.ensures
+pub returns : goal.returns
+returns c = λ G. states_done G _ _ (c.get_cutoff-cut.ensures _ (costs G) G.fine) _ c.offset_of.ensures _ c.clear.ensures c.clear.auto.tokens _ _ _ c.look.result _ (c.look.ensures (look_given G _ _ (c.get_cutoff-cut.ensures _ (costs G) G.fine))) c.in_ok-next.was c.emit_states.ensures

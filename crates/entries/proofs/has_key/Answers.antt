@@ -1,5 +1,5 @@
 -- None so far has the words.
-use Rattle.std.proofs.Common.{◌-◌, subst}
+use Rattle.std.proofs.Common.{subst}
 use Rattle.entries.specs.Entries.{SameKeyIs}
 use Rattle.entries.specs.Laws.{key_found, key_next}
 use Rattle.entries.proofs.has_key.Goals as goal

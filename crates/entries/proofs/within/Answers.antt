@@ -1,5 +1,5 @@
 -- The margin cuts none so far.
-use Rattle.std.proofs.Common.{◌-◌, arith}
+use Rattle.std.proofs.Common.{arith}
 use Rattle.entries.specs.Laws.{uncut_next, cut_at, uncut_all}
 use Rattle.entries.proofs.within.Goals as goal
 

@@ -1,7 +1,7 @@
 -- `fst::check_arcs` meets its contract. The invariant: the whole answer is that of the arcs ahead.
 use mathlib.Core.Path.{◌≡◌}
 use mathlib.Core.List.{[]}
-use Prim.Native.Nat.{◌≤◌, ◌-◌}
+use Prim.Native.Nat.{◌≤◌}
 use lib.ListN.{length}
 use Rattle.fst.specs.Answer.{without_words}
 use Rattle.fst.proofs.Arcs.{whole, ahead}
@@ -11,6 +11,3 @@ abbrev pub invariant-loop-i : goal.invariant-loop-i
 invariant-loop-i l =
     let g = without_words [] l.ilabels l.weights l.nextstates l.finals l.tid2pdf l.tid2phone l.pdfs in
     (l.i ≤ length l.ilabels) × (whole g l.state (length l.ilabels) ≡ ahead g l.state (length l.ilabels) l.i)
-
-abbrev pub decreases-loop-i : goal.decreases-loop-i
-decreases-loop-i l = length l.ilabels - l.i

@@ -3,6 +3,7 @@ use borrow.Author.Tests.{le-leb, lt-leb}
 use mathlib.Core.Path.{◌≡◌, sym, subst}
 use mathlib.Core.Bool.{Bool, true, false}
 use mathlib.Core.List.{List}
+use mathlib.Core.Option.{Option, none}
 use Prim.Native.Nat.{ℕ, ◌<◌, ◌≤◌, ◌^◌}
 use native.Mathlib.Omega.{arith}
 use lib.IntN.{ℤ, pos, nat_abs}
@@ -10,10 +11,9 @@ use lib.Signed.{mag, lt_z}
 use lib.ListN.{length, get_or}
 use mir.Syntax.{w32}
 use mir.Val.{of_z, to_z, SFits}
-use Rattle.model.specs.Basics.{ltℤ, nonzero, nowhere}
+use Rattle.model.specs.Basics.{ltℤ, nonzero, nowhere, Refusal}
 use Rattle.model.specs.Graph.{refuse_at}
-use Rattle.fst.specs.Answer.{number_of}
-use Rattle.fst.proofs.Labels.{label_number, negative, epsilon, past_pdfs, past_phones, pdf_negative, pdf_over, by_phone}
+use Rattle.fst.proofs.Labels.{label_fault, bad_label, negative, epsilon, past_pdfs, past_phones, pdf_negative, pdf_over, by_phone}
 use Rattle.model.specs.Ints.{back, nonzero_yes, nonzero_no, as_defined, tested, at_least, less}
 use Rattle.fst.proofs.check_label.Goals as goal
 
@@ -22,30 +22,30 @@ module _ (p h : List ℤ) (n : ℕ) (z : ℤ) (f : SFits w32 z) where
   abbrev label : ℤ
   label = to_z w32 (of_z w32 z)
 
-  abbrev Number : ℕ → Type 0
-  Number k = k ≡ label_number p h n z
+  abbrev Finds : Option Refusal → Type 0
+  Finds o = o ≡ label_fault p h n z
 
-  answers : (k : ℕ) → k ≡ label_number p h n label → Number k
-  answers k = subst (λ (y : ℤ). k ≡ label_number p h n y) (back z f.sfits)
+  answers : (o : Option Refusal) → o ≡ label_fault p h n label → Finds o
+  answers o = subst (λ (y : ℤ). o ≡ label_fault p h n y) (back z f.sfits)
 
-  at_negative : lt_z label (pos 0) ≡ true → Number 3
-  at_negative a = answers 3 (negative _ _ _ _ (as_defined label (pos 0) a))
+  at_negative : lt_z label (pos 0) ≡ true → Finds bad_label
+  at_negative a = answers _ (negative _ _ _ _ (as_defined label (pos 0) a))
 
   module _ (natural : lt_z label (pos 0) ≡ false) where
-    at_epsilon : of_z w32 z ≡ 0 → Number 0
+    at_epsilon : of_z w32 z ≡ 0 → Finds none
     at_epsilon m =
-        answers 0 (epsilon _ _ _ _ (as_defined label (pos 0) natural) (subst (λ (y : ℤ). nonzero y ≡ false) (sym (back z f.sfits)) (nonzero_no z f m)))
+        answers _ (epsilon _ _ _ _ (as_defined label (pos 0) natural) (subst (λ (y : ℤ). nonzero y ≡ false) (sym (back z f.sfits)) (nonzero_no z f m)))
 
     module _ (m : of_z w32 z ≡ 0 → ⊥) where
       emitting : nonzero label ≡ true
       emitting = subst (λ (y : ℤ). nonzero y ≡ true) (sym (back z f.sfits)) (nonzero_yes z m)
 
-      no_pdf : length p ≤ nat_abs label → Number 3
-      no_pdf b = answers 3 (past_pdfs _ _ _ _ (as_defined label (pos 0) natural) emitting (le-leb _ _ b))
+      no_pdf : length p ≤ nat_abs label → Finds bad_label
+      no_pdf b = answers _ (past_pdfs _ _ _ _ (as_defined label (pos 0) natural) emitting (le-leb _ _ b))
 
       module _ (in_pdfs : nat_abs label < length p) where
-        no_phone : length h ≤ nat_abs label → Number 3
-        no_phone b = answers 3 (past_phones _ _ _ _ (as_defined label (pos 0) natural) emitting (lt-leb _ _ in_pdfs) (le-leb _ _ b))
+        no_phone : length h ≤ nat_abs label → Finds bad_label
+        no_phone b = answers _ (past_phones _ _ _ _ (as_defined label (pos 0) natural) emitting (lt-leb _ _ in_pdfs) (le-leb _ _ b))
 
         module _ (in_phones : nat_abs label < length h) where
           -- the pdf, an element of its table
@@ -56,18 +56,18 @@ module _ (p h : List ℤ) (n : ℕ) (z : ℤ) (f : SFits w32 z) where
           phone = get_or h (nat_abs label) (pos 0)
 
           module _ (fits : mag pdf < 2 ^ 31) where
-            negative_pdf : lt_z (to_z w32 (of_z w32 pdf)) (pos 0) ≡ true → Number 3
+            negative_pdf : lt_z (to_z w32 (of_z w32 pdf)) (pos 0) ≡ true → Finds bad_label
             negative_pdf e =
-                answers 3 (pdf_negative _ _ _ _ (as_defined label (pos 0) natural) emitting (lt-leb _ _ in_pdfs) (lt-leb _ _ in_phones) (tested pdf 0 fits e))
+                answers _ (pdf_negative _ _ _ _ (as_defined label (pos 0) natural) emitting (lt-leb _ _ in_pdfs) (lt-leb _ _ in_phones) (tested pdf 0 fits e))
 
             module _ (pdf_natural : lt_z (to_z w32 (of_z w32 pdf)) (pos 0) ≡ false) where
-              large_pdf : n ≤ nat_abs (to_z w32 (of_z w32 pdf)) → Number 3
+              large_pdf : n ≤ nat_abs (to_z w32 (of_z w32 pdf)) → Finds bad_label
               large_pdf b =
                   let e = subst (λ (y : ℤ). ltℤ y (pos n) ≡ false) (back pdf fits) (at_least (to_z w32 (of_z w32 pdf)) n pdf_natural b) in
-                  answers 3 (pdf_over _ _ _ _ (as_defined label (pos 0) natural) emitting (lt-leb _ _ in_pdfs) (lt-leb _ _ in_phones) (tested pdf 0 fits pdf_natural) e)
+                  answers _ (pdf_over _ _ _ _ (as_defined label (pos 0) natural) emitting (lt-leb _ _ in_pdfs) (lt-leb _ _ in_phones) (tested pdf 0 fits pdf_natural) e)
 
               -- the last test, of the phone, decides
-              last : nat_abs (to_z w32 (of_z w32 pdf)) < n → mag phone < 2 ^ 31 → (t : Bool) → lt_z (to_z w32 (of_z w32 phone)) (pos 1) ≡ t → Number (number_of (refuse_at nowhere 4 t))
+              last : nat_abs (to_z w32 (of_z w32 pdf)) < n → mag phone < 2 ^ 31 → (t : Bool) → lt_z (to_z w32 (of_z w32 phone)) (pos 1) ≡ t → Finds (refuse_at nowhere 4 t)
               last b l t e =
                   let few = subst (λ (y : ℤ). ltℤ y (pos n) ≡ true) (back pdf fits) (less (to_z w32 (of_z w32 pdf)) n b) in
                   answers _ (by_phone _ _ _ _ (as_defined label (pos 0) natural) emitting (lt-leb _ _ in_pdfs) (lt-leb _ _ in_phones) (tested pdf 0 fits pdf_natural) few t (tested phone 1 l e))

@@ -4,11 +4,12 @@ use mathlib.Core.Path.{◌≡◌, refl, sym, ◌∙◌}
 use Prim.Native.Nat.{◌≤◌}
 use native.Mathlib.Omega.{arith}
 use lib.ListN.{length}
+use Rattle.std.proofs.lemmas.Result.{err_from_is_err_and}
 use Rattle.lists.specs.Parts.{part_length}
 use Rattle.fst.specs.Answer.{without_words, found_of}
 use Rattle.fst.proofs.Offsets.{between}
 use Rattle.fst.proofs.States.{arcs, part_checked, state_refused, state_passed, all_states_lem}
-use Rattle.fst.proofs.check_states.Goals.{After-first_arc-e, After-check_arcs-found}
+use Rattle.fst.proofs.check_states.Goals.{After-first_arc-e, After-check_arcs}
 use Rattle.fst.proofs.check_states.Goals as goal
 
 -- where the state's arcs begin and end
@@ -17,13 +18,13 @@ part c =
     between (length c.args.ilabels.now) c.args.offsets.now c.requires.rising c.loop-s.s (omega arith) c.first_arc-a.ensures c.first_arc-e.ensures
 
 -- the answer of the state's part is the definition's for the state
-of_state : (c : After-check_arcs-found) →
+of_state : (c : After-check_arcs) →
     let a = c.args in
-    c.check_arcs-found.result ≡ found_of (arcs (without_words a.offsets.now a.ilabels.now a.weights.now a.nextstates.now a.finals.now a.tid2pdf.now a.tid2phone.now a.pdfs) a.offsets.now c.loop-s.s)
+    c.check_arcs.result ≡ found_of (arcs (without_words a.offsets.now a.ilabels.now a.weights.now a.nextstates.now a.finals.now a.tid2pdf.now a.tid2phone.now a.pdfs) a.offsets.now c.loop-s.s)
 of_state c =
     let a = c.args in
     let b = between (length a.ilabels.now) a.offsets.now c.requires.rising c.loop-s.s (omega arith) c.first_arc-a.ensures c.first_arc-e.ensures in
-    c.check_arcs-found.ensures ∙
+    c.check_arcs.ensures ∙
     part_checked a.offsets.now a.ilabels.now a.weights.now a.nextstates.now a.finals.now a.tid2pdf.now a.tid2phone.now a.pdfs c.loop-s.s c.first_arc-a.result c.first_arc-e.result b.0 b.1 c.first_arc-a.ensures c.first_arc-e.ensures
 
 pub slice_bounds-check_arcs-count : goal.slice_bounds-check_arcs-count
@@ -59,11 +60,11 @@ slice_bounds-check_arcs-end-in-loop-s-2 c =
     let n = c.requires.nextstates_long in
     omega arith
 
-pub check_arcs-found-requires : goal.check_arcs-found-requires
-check_arcs-found-requires c =
+pub check_arcs-requires : goal.check_arcs-requires
+check_arcs-requires c =
     let a = c.first_arc-a.result in
     let e = c.first_arc-e.result in
-    let b = part (goal.at.check_arcs-found-requires c).After-first_arc-e in
+    let b = part (goal.at.check_arcs-requires c).After-first_arc-e in
     let n = length c.args.ilabels.now in
     let l = part_length c.args.ilabels.now a e n refl b.0 b.1 in (
       part_length c.args.weights.now a e n c.requires.weights_long b.0 b.1 ∙ sym l,
@@ -71,15 +72,16 @@ check_arcs-found-requires c =
       omega arith,
     )
 
-pub returns-in-Fault : goal.returns-in-Fault
-returns-in-Fault c =
+pub returns-in_err-check_arcs : goal.returns-in_err-check_arcs
+returns-in_err-check_arcs c =
     let l = c.loop-s in
-    state_refused _ _ l.s l.invariant.1 (omega arith) c.in-Fault.refusal (sym c.in-Fault.is ∙ of_state (goal.at.returns-in-Fault c).After-check_arcs-found)
+    let p = err_from_is_err_and c.from_residual.result c.from_residual.ensures.1 in
+    rw (p.1, p.2) (state_refused _ _ l.s l.invariant.1 (omega arith) _ (sym c.in_err-check_arcs.was ∙ of_state (goal.at.returns-in_err-check_arcs c).After-check_arcs))
 
 pub loop-s-preserved : goal.loop-s-preserved
 loop-s-preserved c =
     let l = c.loop-s in
-    (search rules, state_passed _ _ l.s l.invariant.1 (omega arith) (sym c.in_default.is ∙ of_state (goal.at.loop-s-preserved c).After-check_arcs-found))
+    (search rules, state_passed _ _ l.s l.invariant.1 (omega arith) (sym c.in_ok-check_arcs.was ∙ of_state (goal.at.loop-s-preserved c).After-check_arcs))
 
 pub returns : goal.returns
 returns c = let l = c.loop-s in all_states_lem _ _ l.s l.invariant.1 (omega arith)

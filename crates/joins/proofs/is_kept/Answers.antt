@@ -11,8 +11,8 @@ returns-in_default c = record { is = λ h ok. rw c.in_default.is }
 pub returns-then-gap-m : goal.returns-then-gap-m
 unfolding keeps_of
 returns-then-gap-m c =
-    record { is = λ h ok. c.worth_keeping.ensures.is h ok ∙ rw (back c.args.over c.ranges.over.sfits, c.in-Within.is, c.if-gap-m.true) }
+    record { is = λ h ok. c.worth_keeping.ensures.is h ok ∙ rw (back c.args.over c.ranges.over.sfits, c.in-Some.is, c.if-gap-m.true) }
 
 pub returns-else-gap-m : goal.returns-else-gap-m
 unfolding keeps_of
-returns-else-gap-m c = record { is = λ h ok. rw (c.in-Within.is, c.if-gap-m.false) }
+returns-else-gap-m c = record { is = λ h ok. rw (c.in-Some.is, c.if-gap-m.false) }

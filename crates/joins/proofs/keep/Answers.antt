@@ -1,4 +1,5 @@
 -- Each way out is a constructor of its contract.
+use Rattle.std.specs.Prelude.{Option}
 use Prim.Native.Nat.{ℕ, ◌<◌, ◌^◌}
 use mathlib.Core.Path.{◌≡◌, refl, sym, ◌∙◌}
 use mathlib.Core.Bool.{Bool}
@@ -10,13 +11,12 @@ use mir.Val.{of_z, to_z}
 use Rattle.model.specs.Ints.{back}
 use Rattle.records.specs.Layout.{Store}
 use Rattle.tokens.specs.declared.Token.{Token}
-use Rattle.joins.specs.declared.Margin.{Margin}
 use Rattle.joins.specs.Keep.{KeptIs, drops_loser, finds_full, joins_loser}
 use native.Mathlib.Omega.{arith}
 use Rattle.joins.proofs.keep.Goals as goal
 
 -- the answer that a test found, for the word that was handed on
-answered : {s : Store} {n : ℕ} {margin : Margin} {gap : Float} {won lost : Token} (over : ℤ) {b v : Bool} → mag over < 2 ^ 31 → b ≡ v
+answered : {s : Store} {n : ℕ} {margin : Option Float} {gap : Float} {won lost : Token} (over : ℤ) {b v : Bool} → mag over < 2 ^ 31 → b ≡ v
     → KeptIs s n margin gap won lost (to_z w32 (of_z w32 over)) b → KeptIs s n margin gap won lost over v
 answered over f e k = record { is = λ h ok. sym e ∙ k.is h ok ∙ rw (back over f) }
 

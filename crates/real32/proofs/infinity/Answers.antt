@@ -1,8 +1,8 @@
--- `real32::infinity` meets its contract: one divided by zero is +∞.
-use lib.Ieee.{of_bits, div}
+-- `real32::infinity` meets its contract: the constant is +∞.
+use lib.Ieee.{of_bits}
 use mathlib.Core.Path.{refl}
 use Rattle.real32.proofs.infinity.Goals as goal
 
 pub returns : goal.returns
-unfolding of_bits div
+unfolding of_bits
 returns c = refl

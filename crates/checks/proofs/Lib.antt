@@ -1,0 +1,2 @@
+-- std's `min` as the lesser of two.
+mod Least
