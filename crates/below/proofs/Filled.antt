@@ -9,6 +9,7 @@ use lib.IntN.{ℤ}
 use lib.Ieee.{Float}
 use lib.Dec.{T}
 use lib.ListN.{length, get_or, set, take}
+use Rattle.std.specs.Prelude.{Option, Some, None}
 use lib.Seq.{get_or-set_same, get_or-set_other, length-take-le, get_or-take}
 use borrow.Author.Tests.{eq-eqb, ne_eqb}
 use Rattle.lists.specs.Tests.{case, eq_or_not, never}
@@ -145,61 +146,58 @@ module _ (rs : List ℕ) (ls : List ℤ) (gs : List Float) (used : ℕ) (margin 
           is = λ h links F. progress_past (D.is h links F) (wanted_no lists₀ (suc r) (sym (D.counts (suc r) (omega arith)) ∙ e));
         }
 
-    module _ (hs' ns' : List ℕ) (xs' : List Float) (n : ℕ) (L : ListFilled rs ls gs used margin cap lists hs ns xs hs' ns' xs' places (suc r) free n) where
+    module _ (hs' ns' : List ℕ) (xs' : List Float) {n : Option ℕ} (L : ListFilled rs ls gs used margin cap lists hs ns xs hs' ns' xs' places (suc r) free n) where
       want : is_wanted lists₀ (suc r) ≡ true
       want = wanted_yes lists₀ (suc r) (let z = L.wanted in let y = D.counts (suc r) (omega arith) in omega arith)
 
-      done_full : (lists' : List ℕ) → n ≡ 0 → ListsAre rs ls gs used margin cap lists₀ lists' hs' ns' xs' places 0
-      done_full lists' e =
-          record {
-            is = λ h links F.
-                was_full
-                (progress_full F.stands margin cap links F.links_low (is_wanted lists₀) F.only F.all (D.is h links F) few want L.own_way.way L.kept_way.way F.small L.fill e);
-            short = λ d. absurd (d refl);
-          }
+    done_full : (lists' hs' ns' : List ℕ) (xs' : List Float) → ListFilled rs ls gs used margin cap lists hs ns xs hs' ns' xs' places (suc r) free None → ListsAre rs ls gs used margin cap lists₀ lists' hs' ns' xs' places None
+    done_full lists' hs' ns' xs' L =
+        record {
+          is = λ h links F.
+              was_full
+              (progress_full F.stands margin cap links F.links_low (is_wanted lists₀) F.only F.all (D.is h links F) few (want hs' ns' xs' L) L.own_way.way L.kept_way.way F.small L.fill refl);
+          short = tt;
+        }
 
-      short_new : (n ≡ 0 → ⊥) → (e : ℕ) → free ≤ e → e < n → (entry_at hs' ns' xs' e).len ≤ suc r
-      short_new nz = new_short F₀.stands margin cap links₀ F₀.links_low (is_wanted lists₀) F₀.only F₀.all (D.is h₀ links₀ F₀) few want L.own_way.way L.kept_way.way F₀.small L.fill nz
+    done_put : (lists' hs' ns' : List ℕ) (xs' : List Float) (n : ℕ) → ListFilled rs ls gs used margin cap lists hs ns xs hs' ns' xs' places (suc r) free (Some n) → ListPut lists lists' (suc r) free (n - free) → DoneTo rs ls gs used margin cap lists₀ lists' hs' ns' xs' places (suc r) n
+    done_put lists' hs' ns' xs' n L P =
+        record {
+          begins = let z = L.fill.on in let b = D.begins in omega arith;
+          low = L.fill.fits;
+          short = short_put D.short lists' hs' ns' xs' (suc r) n L.fill.on L.fill.before short_new P.firsts P.counts P.first P.count;
+          counts = λ j l. P.counts j (λ e. omega arith) ∙ D.counts j (omega arith);
+          is = λ h links F.
+              progress_put F.stands margin cap links F.links_low (is_wanted lists₀) F.only F.all (D.is h links F) few (want hs' ns' xs' L) L.own_way.way L.kept_way.way F.small L.fill n refl L.fill.fits lists'
+              (λ j u. P.firsts j (λ e. omega arith)) (λ j u. P.counts j (λ e. omega arith)) P.first P.count;
+        }
+      where
+        short_new : (e : ℕ) → free ≤ e → e < n → (entry_at hs' ns' xs' e).len ≤ suc r
+        short_new = new_short F₀.stands margin cap links₀ F₀.links_low (is_wanted lists₀) F₀.only F₀.all (D.is h₀ links₀ F₀) few (want hs' ns' xs' L) L.own_way.way L.kept_way.way F₀.small L.fill n refl
 
-      done_put : (lists' : List ℕ) → (n ≡ 0 → ⊥) → ListPut lists lists' (suc r) free (n - free) → DoneTo rs ls gs used margin cap lists₀ lists' hs' ns' xs' places (suc r) n
-      done_put lists' nz P =
-          record {
-            begins = let z = L.fill.on nz in let b = D.begins in omega arith;
-            low = L.fill.fits;
-            short = short_put D.short lists' hs' ns' xs' (suc r) n (L.fill.on nz) L.fill.before (short_new nz) P.firsts P.counts P.first P.count;
-            counts = λ j l. P.counts j (λ e. omega arith) ∙ D.counts j (omega arith);
-            is = λ h links F.
-                progress_put F.stands margin cap links F.links_low (is_wanted lists₀) F.only F.all (D.is h links F) few want L.own_way.way L.kept_way.way F.small L.fill nz lists'
-                (λ j u. P.firsts j (λ e. omega arith)) (λ j u. P.counts j (λ e. omega arith)) P.first P.count;
-          }
-
-    step : (lists' hs' ns' : List ℕ) (xs' : List Float) (n : ℕ) → OneIs rs ls gs used margin cap lists hs ns xs lists' hs' ns' xs' places (suc r) free n → (n ≡ 0 → ⊥) → DoneTo rs ls gs used margin cap lists₀ lists' hs' ns' xs' places (suc r) n
-    step lists' hs' ns' xs' n (not_wanted e a b c d) nz =
+    step : (lists' hs' ns' : List ℕ) (xs' : List Float) (n : ℕ) → OneIs rs ls gs used margin cap lists hs ns xs lists' hs' ns' xs' places (suc r) free (Some n) → DoneTo rs ls gs used margin cap lists₀ lists' hs' ns' xs' places (suc r) n
+    step lists' hs' ns' xs' n (not_wanted e a b c d) =
         subst (λ (l : List ℕ). DoneTo rs ls gs used margin cap lists₀ l hs' ns' xs' places (suc r) free) (sym a)
         (subst (λ (l : List ℕ). DoneTo rs ls gs used margin cap lists₀ lists l ns' xs' places (suc r) free) (sym b)
         (subst (λ (l : List ℕ). DoneTo rs ls gs used margin cap lists₀ lists hs l xs' places (suc r) free) (sym c)
         (subst (λ (l : List Float). DoneTo rs ls gs used margin cap lists₀ lists hs ns l places (suc r) free) (sym d) (done_past e))))
-    step lists' hs' ns' xs' n (no_place L) nz = absurd (nz refl)
-    step lists' hs' ns' xs' n (was_listed m u L P) nz = done_put hs' ns' xs' m L lists' u P
+    step lists' hs' ns' xs' n (was_listed m L P) = done_put lists' hs' ns' xs' m L P
 
-    stop : (lists' hs' ns' : List ℕ) (xs' : List Float) (n : ℕ) → OneIs rs ls gs used margin cap lists hs ns xs lists' hs' ns' xs' places (suc r) free n → n ≡ 0 → ListsAre rs ls gs used margin cap lists₀ lists' hs' ns' xs' places 0
-    stop lists' hs' ns' xs' n (not_wanted e a b c d) z = let y = D.begins in absurd (omega arith)
-    stop lists' hs' ns' xs' n (no_place L) z = done_full hs' ns' xs' 0 L lists' refl
-    stop lists' hs' ns' xs' n (was_listed m u L P) z = absurd (u z)
+    stop : (lists' hs' ns' : List ℕ) (xs' : List Float) → OneIs rs ls gs used margin cap lists hs ns xs lists' hs' ns' xs' places (suc r) free None → ListsAre rs ls gs used margin cap lists₀ lists' hs' ns' xs' places None
+    stop lists' hs' ns' xs' (no_place L) = done_full lists' hs' ns' xs' L
 
-    pub done_next : (lists' hs' ns' : List ℕ) (xs' : List Float) (n s : ℕ) → s ≡ suc r → OneIs rs ls gs used margin cap lists hs ns xs lists' hs' ns' xs' places s free n → (n ≡ 0 → ⊥) → DoneTo rs ls gs used margin cap lists₀ lists' hs' ns' xs' places s n
-    done_next lists' hs' ns' xs' n s q O nz =
-        subst (λ (k : ℕ). DoneTo rs ls gs used margin cap lists₀ lists' hs' ns' xs' places k n) (sym q) (step lists' hs' ns' xs' n (subst (λ (k : ℕ). OneIs rs ls gs used margin cap lists hs ns xs lists' hs' ns' xs' places k free n) q O) nz)
+    pub done_next : (lists' hs' ns' : List ℕ) (xs' : List Float) (n s : ℕ) → s ≡ suc r → OneIs rs ls gs used margin cap lists hs ns xs lists' hs' ns' xs' places s free (Some n) → DoneTo rs ls gs used margin cap lists₀ lists' hs' ns' xs' places s n
+    done_next lists' hs' ns' xs' n s q O =
+        subst (λ (k : ℕ). DoneTo rs ls gs used margin cap lists₀ lists' hs' ns' xs' places k n) (sym q) (step lists' hs' ns' xs' n (subst (λ (k : ℕ). OneIs rs ls gs used margin cap lists hs ns xs lists' hs' ns' xs' places k free (Some n)) q O))
 
-    pub done_stop : (lists' hs' ns' : List ℕ) (xs' : List Float) (n s : ℕ) → s ≡ suc r → OneIs rs ls gs used margin cap lists hs ns xs lists' hs' ns' xs' places s free n → n ≡ 0 → ListsAre rs ls gs used margin cap lists₀ lists' hs' ns' xs' places 0
-    done_stop lists' hs' ns' xs' n s q O z = stop lists' hs' ns' xs' n (subst (λ (k : ℕ). OneIs rs ls gs used margin cap lists hs ns xs lists' hs' ns' xs' places k free n) q O) z
+    pub done_stop : (lists' hs' ns' : List ℕ) (xs' : List Float) (s : ℕ) → s ≡ suc r → OneIs rs ls gs used margin cap lists hs ns xs lists' hs' ns' xs' places s free None → ListsAre rs ls gs used margin cap lists₀ lists' hs' ns' xs' places None
+    done_stop lists' hs' ns' xs' s q O = stop lists' hs' ns' xs' (subst (λ (k : ℕ). OneIs rs ls gs used margin cap lists hs ns xs lists' hs' ns' xs' places k free None) q O)
 
-  pub done_all : (lists₀ lists hs ns : List ℕ) (xs : List Float) (places r free : ℕ) → r ≡ used → DoneTo rs ls gs used margin cap lists₀ lists hs ns xs places r free → ListsAre rs ls gs used margin cap lists₀ lists hs ns xs places free
+  pub done_all : (lists₀ lists hs ns : List ℕ) (xs : List Float) (places r free : ℕ) → r ≡ used → DoneTo rs ls gs used margin cap lists₀ lists hs ns xs places r free → ListsAre rs ls gs used margin cap lists₀ lists hs ns xs places (Some free)
   done_all lists₀ lists hs ns xs places r free e D =
       record {
         is = λ h links F.
             progress_all F.stands margin cap links F.links_low (is_wanted lists₀) F.only F.all (subst (λ (k : ℕ). Progress h used margin cap (is_wanted lists₀) lists hs ns xs places k free) e (D.is h links F));
-        short = λ d. D.short;
+        short = D.short;
       }
 
 -- ---- from the marks to the lists
@@ -265,7 +263,7 @@ module _ {tk rs : List ℕ} {ls : List ℤ} {gs : List Float} {b used : ℕ} {he
     fair : (h : ℕ → History) → Stands (store rs ls gs) used h → Fair rs ls gs used margin cap l₃ h (head_links tk b heads n)
     fair h ok = record { stands = ok; links_low = low; small = small; only = wanted_only h ok cap low; all = wanted_all h ok cap low }
 
-    pub below_is : {lists hs ns : List ℕ} {xs : List Float} {places r : ℕ} → ListsAre rs ls gs used margin cap l₃ lists hs ns xs places r → BelowIs rs ls gs used margin cap (head_links tk b heads n) lists hs ns xs places r
+    pub below_is : {lists hs ns : List ℕ} {xs : List Float} {places : ℕ} {r : Option ℕ} → ListsAre rs ls gs used margin cap l₃ lists hs ns xs places r → BelowIs rs ls gs used margin cap (head_links tk b heads n) lists hs ns xs places r
     below_is L = record { is = λ h ok. L.is h (head_links tk b heads n) (fair h ok); short = L.short }
 
     -- what filling the lists asks

@@ -5,9 +5,11 @@ use Prim.Native.Nat.{ℕ, zero, suc, ◌+◌, ◌-◌, ◌*◌, ◌≤◌, ◌<�
 use native.Mathlib.Omega.{arith}
 use mathlib.Core.Bool.{true, false}
 use mathlib.Core.List.{List}
+use Rattle.std.proofs.lemmas.List.{get_or_append_left}
 use lib.IntN.{ℤ}
 use lib.Ieee.{Float}
-use lib.ListN.{length, get_or, set}
+use mathlib.Core.List.{◌++◌}
+use lib.ListN.{length, get_or, set, replicate, drop, length-replicate, get_or-replicate}
 use lib.Seq.{get_or-set_same, get_or-set_other}
 use Rattle.lists.specs.Tests.{case, lt_or_le, eq_or_not, never}
 use Rattle.model.specs.Basics.{◌≼◌}
@@ -38,20 +40,12 @@ count_some ls (suc k) d = ap (λ (i : ℕ). get_or ls (i * 2 + 1) 0) (omega arit
 
 -- ---- clearing
 
-pub cleared_none : (ls : List ℕ) → Cleared ls 0
-cleared_none ls = record { first = λ k l. absurd (omega arith); count = λ k l. absurd (omega arith) }
-
-pub cleared_more : (ls ls' : List ℕ) (k : ℕ) → ls' ≡ set (set ls (k * 2) 0) (k * 2 + 1) 0 → k * 2 + 2 ≤ length ls → length (set ls (k * 2) 0) ≡ length ls → Cleared ls k → Cleared ls' (k + 1)
-cleared_more ls ls' k q room same c =
-    let other : (i : ℕ) → (i ≡ k * 2 → ⊥) → (i ≡ k * 2 + 1 → ⊥) → get_or ls' i 0 ≡ get_or ls i 0 = λ i a b. ap (λ (x : List ℕ). get_or x i 0) q ∙ get_or-set_other (set ls (k * 2) 0) (k * 2 + 1) i 0 0 b ∙ get_or-set_other ls (k * 2) i 0 0 a in
-    record {
-      first = λ i l. case (eq_or_not i k)
-          (λ e. ap (λ (x : List ℕ). get_or x (i * 2) 0) q ∙ ap (λ (z : ℕ). get_or (set (set ls (k * 2) 0) (k * 2 + 1) 0) (z * 2) 0) e ∙ get_or-set_other (set ls (k * 2) 0) (k * 2 + 1) (k * 2) 0 0 (λ u. omega arith) ∙ get_or-set_same ls (k * 2) 0 0 (omega arith))
-          (λ d. other (i * 2) (λ u. d (omega arith)) (λ u. omega arith) ∙ c.first i (omega (arith, d)));
-      count = λ i l. case (eq_or_not i k)
-          (λ e. ap (λ (x : List ℕ). get_or x (i * 2 + 1) 0) q ∙ ap (λ (z : ℕ). get_or (set (set ls (k * 2) 0) (k * 2 + 1) 0) (z * 2 + 1) 0) e ∙ get_or-set_same (set ls (k * 2) 0) (k * 2 + 1) 0 0 (omega arith))
-          (λ d. other (i * 2 + 1) (λ u. omega arith) (λ u. d (omega arith)) ∙ c.count i (omega (arith, d)));
-    }
+pub cleared_all : (ls ls' : List ℕ) (used : ℕ) → used * 2 ≤ length ls → ls' ≡ replicate (used * 2) 0 ++ drop (used * 2) ls → Cleared ls' used
+cleared_all ls ls' used room q =
+    record { first = λ k l. at (k * 2) (omega arith); count = λ k l. at (k * 2 + 1) (omega arith) }
+  where
+    at : (i : ℕ) → i < used * 2 → get_or ls' i 0 ≡ 0
+    at i l = ap (λ (x : List ℕ). get_or x i 0) q ∙ get_or_append_left (replicate (used * 2) 0) (drop (used * 2) ls) 0 i (let z = length-replicate {A = ℕ} (used * 2) 0 in omega arith) ∙ get_or-replicate (used * 2) i 0 0 l
 
 -- ---- marks on no join, on one, on those of two sets
 

@@ -1,5 +1,5 @@
 -- What filling the lists asks and leaves.
-use Rattle.std.specs.Prelude.{◌≡◌, ℕ, suc, ◌*◌, ◌^◌, ◌-◌, ◌≤◌, ◌<◌, List, [], ◌∷◌, ◌++◌, map, T, eqb, ℤ, length, Float}
+use Rattle.std.specs.Prelude.{◌≡◌, ℕ, suc, ◌*◌, ◌^◌, ◌-◌, ◌≤◌, ◌<◌, List, [], ◌∷◌, ◌++◌, map, T, eqb, ℤ, length, Float, Option, Some, None, IfSome}
 use Rattle.lists.specs.Lists.{◌∈◌, firsts, sum}
 use Rattle.real32.specs.Small.{huge}
 use Rattle.model.specs.Basics.{◌≺◌}
@@ -42,13 +42,13 @@ pub record Listed (h : ℕ → History) (used : ℕ) (margin : Float) (cap : ℕ
   pub decoded : Decoded h used hs ns xs bs
   pub lists_are : (l : ℕ) → l ∈ links → (e : ℕ) → e ≤ used → tag (h e) ≡ join_tag (h l) → list_at lists bs e ≡ below_of margin cap (h e)
 
--- the next free entry; or 0, where the lists have more entries than there are places
-pub data Outcome (h : ℕ → History) (used : ℕ) (margin : Float) (cap : ℕ) (links lists hs ns : List ℕ) (xs : List Float) (places : ℕ) : ℕ → Type 0 where
-  was_full : places < entries_below margin cap (map h links) → Outcome h used margin cap links lists hs ns xs places 0
-  was_filled : (n : ℕ) → n ≡ entries_below margin cap (map h links) → n ≤ places → Listed h used margin cap links lists hs ns xs n → Outcome h used margin cap links lists hs ns xs places (suc n)
+-- the next free entry; or none, where the lists have more entries than there are places
+pub data Outcome (h : ℕ → History) (used : ℕ) (margin : Float) (cap : ℕ) (links lists hs ns : List ℕ) (xs : List Float) (places : ℕ) : Option ℕ → Type 0 where
+  was_full : places < entries_below margin cap (map h links) → Outcome h used margin cap links lists hs ns xs places None
+  was_filled : (n : ℕ) → n ≡ entries_below margin cap (map h links) → n ≤ places → Listed h used margin cap links lists hs ns xs n → Outcome h used margin cap links lists hs ns xs places (Some (suc n))
 
 -- the definition's lists, whatever histories the records stand for
-pub record BelowIs (rs : List ℕ) (ls : List ℤ) (gs : List Float) (used : ℕ) (margin : Float) (cap : ℕ) (links lists hs ns : List ℕ) (xs : List Float) (places r : ℕ) : Type 0 where
+pub record BelowIs (rs : List ℕ) (ls : List ℤ) (gs : List Float) (used : ℕ) (margin : Float) (cap : ℕ) (links lists hs ns : List ℕ) (xs : List Float) (places : ℕ) (r : Option ℕ) : Type 0 where
   pub is : (h : ℕ → History) → Stands (store rs ls gs) used h → Outcome h used margin cap links lists hs ns xs places r
   -- a list's entries are among those put, and each has at most as many words as its join has records before it
-  pub short : (r ≡ 0 → ⊥) → Short lists hs ns xs used r
+  pub short : IfSome r (Short lists hs ns xs used)

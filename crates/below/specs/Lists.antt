@@ -1,5 +1,5 @@
 -- The lists below joins, of histories.
-use Rattle.std.specs.Prelude.{ℕ, ◌+◌, not, cond, List, [], ◌∷◌, ◌++◌, map, T, length, Float}
+use Rattle.std.specs.Prelude.{ℕ, not, cond, List, [], ◌∷◌, ◌++◌, map, T, length, Float}
 use Rattle.lists.specs.Lists.{keep_if}
 use Rattle.model.specs.Basics.{◌≺◌, ◌≼◌, 0f}
 use Rattle.model.specs.Readings.{Below, at_start, on_top, by_way, cheapest}

@@ -1,7 +1,8 @@
 -- The lists are filled record by record, in ascending order: how far it has come, and what one join adds. Assumes nothing.
-use Rattle.std.specs.Prelude.{◌≡◌, refl, ◌⊎◌, ℕ, suc, ◌+◌, ◌-◌, ◌≤◌, ◌<◌, Bool, true, false, cond, List, [], ◌++◌, map, T, ℤ, length, get_or, Float}
+use Rattle.std.specs.Prelude.{◌≡◌, refl, ◌⊎◌, ℕ, suc, ◌+◌, ◌-◌, ◌≤◌, ◌<◌, Bool, true, false, cond, List, [], ◌++◌, map, T, ℤ, length, get_or, Float, Option, Some, None}
 use Rattle.std.proofs.Common.{sym, ap, ◌∙◌, subst, arith, length-append}
 use Rattle.std.proofs.lemmas.List.{length-map}
+use Rattle.std.proofs.lemmas.Option.{none-some, same_Some}
 use Rattle.lists.specs.Tests.{case, never, lt_or_le, holds, is_true}
 use Rattle.lists.specs.Lists.{◌∈◌, range}
 use Rattle.lists.specs.Members.{at_member, map_to, keep_to, keep_passes}
@@ -78,9 +79,9 @@ module _ {rs : List ℕ} {ls : List ℤ} {gs : List Float} {used : ℕ} {h : ℕ
         (λ j a u m. keep_to wanted (range 1 used) j (range_in 1 used j a (omega arith)) (wanted_all j a u m))
 
     -- all records are done
-    pub progress_all : {lists hs ns : List ℕ} {xs : List Float} {places next : ℕ} → Progress h used margin cap wanted lists hs ns xs places used next → Outcome h used margin cap links lists hs ns xs places next
+    pub progress_all : {lists hs ns : List ℕ} {xs : List Float} {places next : ℕ} → Progress h used margin cap wanted lists hs ns xs places used next → Outcome h used margin cap links lists hs ns xs places (Some next)
     progress_all {lists} {hs} {ns} {xs} {places} {next} g =
-        subst (Outcome h used margin cap links lists hs ns xs places) (sym g.many)
+        subst (λ (k : ℕ). Outcome h used margin cap links lists hs ns xs places (Some k)) (sym g.many)
         (was_filled (length g.bs) (g.total ∙ total_is) (let y = g.many in let z = g.fits in omega arith)
         (record {
           bs = g.bs;
@@ -149,20 +150,20 @@ module _ {rs : List ℕ} {ls : List ℤ} {gs : List Float} {used : ℕ} {h : ℕ
           (λ i. let z = (way_from hs ns xs kept e i).2 in let y = K.join in omega arith)
 
       -- what filling the list left
-      module _ (small : T (margin ≺ huge)) {hs' ns' : List ℕ} {xs' : List Float} {n : ℕ} (F : FillIs hs ns xs hs' ns' xs' own kept margin cap next places n) where
-        fill_is : ((n ≡ 0) × (places + 1 < next + length es)) ⊎ ((n ≡ next + length es) × (entries hs' ns' xs' next (length es) ≡ es))
+      module _ (small : T (margin ≺ huge)) {hs' ns' : List ℕ} {xs' : List Float} {n : Option ℕ} (F : FillIs hs ns xs hs' ns' xs' own kept margin cap next places n) where
+        fill_is : ((n ≡ None) × (places + 1 < next + length es)) ⊎ ((n ≡ Some (next + length es)) × (entries hs' ns' xs' next (length es) ≡ es))
         fill_is =
             F.is (own_rises ok g.decoded margin cap lists (suc r) (omega arith) few own kept W K own_filled kept_filled is_join small)
             (kept_rises ok g.decoded margin cap lists (suc r) (omega arith) few own kept W K own_filled kept_filled is_join small)
 
         -- no new entry has more words than the join's number
-        pub new_short : (n ≡ 0 → ⊥) → (e : ℕ) → next ≤ e → e < n → (entry_at hs' ns' xs' e).len ≤ suc r
-        new_short d e l u = case fill_is (λ q. absurd (d q.0)) (λ q. short q.0 q.1)
+        pub new_short : (to : ℕ) → n ≡ Some to → (e : ℕ) → next ≤ e → e < to → (entry_at hs' ns' xs' e).len ≤ suc r
+        new_short to d e l u = case fill_is (λ q. absurd (none-some to (sym q.0 ∙ d))) (λ q. short (same_Some to (next + length es) (sym d ∙ q.0)) q.1)
           where
             f : Entry → Below
             f = as_below h g.bs
 
-            short : n ≡ next + length es → entries hs' ns' xs' next (length es) ≡ es → (entry_at hs' ns' xs' e).len ≤ suc r
+            short : to ≡ next + length es → entries hs' ns' xs' next (length es) ≡ es → (entry_at hs' ns' xs' e).len ≤ suc r
             short q new =
                 let k = e - next in
                 let b = get_or es k no_entry in
@@ -173,22 +174,22 @@ module _ {rs : List ℕ} {ls : List ℤ} {gs : List Float} {used : ℕ} {h : ℕ
                 subst (λ (x : Entry). x.len ≤ suc r) (sym a) (below_len ok margin cap (suc r) few (f b) m)
 
         -- its list has no place: then there are too few places
-        pub progress_full : n ≡ 0 → places < entries_below margin cap (map h links)
+        pub progress_full : n ≡ None → places < entries_below margin cap (map h links)
         progress_full e =
             let t = total_new in
             let m = g.many in
             let u = sum_upto wanted size_of (suc r) used few in
             let v = total_is in
-            case fill_is (λ q. let z = q.1 in omega arith) (λ q. let z = q.0 in absurd (omega arith))
+            case fill_is (λ q. let z = q.1 in omega arith) (λ q. absurd (none-some (next + length es) (sym e ∙ q.0)))
 
         old_entries : (i : ℕ) → i < length g.bs → entry_in hs' ns' xs' i ≡ entry_in hs ns xs i
         unfolding entry_at
         old_entries i l = F.before (suc i) (let m = g.many in omega arith)
 
         -- it has its place, and the list's two numbers are put
-        pub progress_put : (n ≡ 0 → ⊥) → (lists' : List ℕ) → ((j : ℕ) → j ≤ r → first_at lists' j ≡ first_at lists j) → ((j : ℕ) → j ≤ r → count_at lists' j ≡ count_at lists j)
-            → first_at lists' (suc r) ≡ next → count_at lists' (suc r) ≡ n - next → Progress h used margin cap wanted lists' hs' ns' xs' places (suc r) n
-        progress_put d lists' firsts_same Counts-same first count = case fill_is (λ q. absurd (d q.0)) (λ q. put q.0 q.1)
+        pub progress_put : (to : ℕ) → n ≡ Some to → to ≤ places + 1 → (lists' : List ℕ) → ((j : ℕ) → j ≤ r → first_at lists' j ≡ first_at lists j) → ((j : ℕ) → j ≤ r → count_at lists' j ≡ count_at lists j)
+            → first_at lists' (suc r) ≡ next → count_at lists' (suc r) ≡ to - next → Progress h used margin cap wanted lists' hs' ns' xs' places (suc r) to
+        progress_put to d fits lists' firsts_same Counts-same first count = case fill_is (λ q. absurd (none-some to (sym q.0 ∙ d))) (λ q. put (same_Some to (next + length es) (sym d ∙ q.0)) q.1)
           where
             cs : List Below
             cs = map (as_below h g.bs) es
@@ -196,12 +197,12 @@ module _ {rs : List ℕ} {ls : List ℤ} {gs : List Float} {used : ℕ} {h : ℕ
             cs_many : length cs ≡ length es
             cs_many = length-map es (as_below h g.bs)
 
-            put : n ≡ next + length es → entries hs' ns' xs' next (length es) ≡ es → Progress h used margin cap wanted lists' hs' ns' xs' places (suc r) n
+            put : to ≡ next + length es → entries hs' ns' xs' next (length es) ≡ es → Progress h used margin cap wanted lists' hs' ns' xs' places (suc r) to
             put e new =
                 record {
                   bs = g.bs ++ cs;
                   many = let a = length-append g.bs cs in let b = cs_many in let m = g.many in omega arith;
-                  fits = F.fits;
+                  fits = fits;
                   decoded = decoded_more g.decoded hs' ns' xs' es old_entries (subst (λ (k : ℕ). entries hs' ns' xs' k (length es) ≡ es) g.many new) next_low join_low;
                   total = let a = length-append g.bs cs in let b = cs_many in let t = total_new in omega arith;
                   filled = λ j a b c. case (lt_or_le r j)

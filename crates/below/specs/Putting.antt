@@ -1,5 +1,5 @@
 -- What filling the wanted lists asks and leaves, one join at a time.
-use Rattle.std.specs.Prelude.{◌≡◌, ℕ, ◌+◌, ◌-◌, ◌*◌, ◌^◌, ◌≤◌, ◌<◌, true, List, T, ℤ, length, Float}
+use Rattle.std.specs.Prelude.{◌≡◌, ℕ, ◌+◌, ◌-◌, ◌*◌, ◌^◌, ◌≤◌, ◌<◌, true, List, T, ℤ, length, Float, Option, Some, None, IfSome}
 use Rattle.lists.specs.Lists.{◌∈◌}
 use Rattle.real32.specs.Small.{huge}
 use Rattle.model.specs.Basics.{◌≺◌}
@@ -37,8 +37,8 @@ pub record OneAsks (rs : List ℕ) (ls : List ℤ) (gs : List Float) (used : ℕ
   pub free_low : free ≤ places + 1
   pub short : Short lists hs ns xs used free
 
--- its list is made of its two ways; n is the next free entry, or 0
-pub record ListFilled (rs : List ℕ) (ls : List ℤ) (gs : List Float) (used : ℕ) (margin : Float) (cap : ℕ) (lists hs ns : List ℕ) (xs : List Float) (hs' ns' : List ℕ) (xs' : List Float) (places r free n : ℕ) : Type 0 where
+-- its list is made of its two ways; n is the next free entry, or none
+pub record ListFilled (rs : List ℕ) (ls : List ℤ) (gs : List Float) (used : ℕ) (margin : Float) (cap : ℕ) (lists hs ns : List ℕ) (xs : List Float) (hs' ns' : List ℕ) (xs' : List Float) (places r free : ℕ) (n : Option ℕ) : Type 0 where
   pub own : Way
   pub kept : Way
   pub wanted : 0 < count_at lists r
@@ -46,11 +46,11 @@ pub record ListFilled (rs : List ℕ) (ls : List ℤ) (gs : List Float) (used : 
   pub kept_way : KeptReach rs ls gs used lists r margin kept
   pub fill : FillIs hs ns xs hs' ns' xs' own kept margin cap free places n
 
-pub data OneIs (rs : List ℕ) (ls : List ℤ) (gs : List Float) (used : ℕ) (margin : Float) (cap : ℕ) (lists hs ns : List ℕ) (xs : List Float) (lists' hs' ns' : List ℕ) (xs' : List Float) (places r free : ℕ) : ℕ → Type 0 where
-  not_wanted : count_at lists r ≡ 0 → lists' ≡ lists → hs' ≡ hs → ns' ≡ ns → xs' ≡ xs → OneIs rs ls gs used margin cap lists hs ns xs lists' hs' ns' xs' places r free free
-  no_place : ListFilled rs ls gs used margin cap lists hs ns xs hs' ns' xs' places r free 0 → OneIs rs ls gs used margin cap lists hs ns xs lists' hs' ns' xs' places r free 0
-  was_listed : (n : ℕ) → (n ≡ 0 → ⊥) → ListFilled rs ls gs used margin cap lists hs ns xs hs' ns' xs' places r free n → ListPut lists lists' r free (n - free)
-      → OneIs rs ls gs used margin cap lists hs ns xs lists' hs' ns' xs' places r free n
+pub data OneIs (rs : List ℕ) (ls : List ℤ) (gs : List Float) (used : ℕ) (margin : Float) (cap : ℕ) (lists hs ns : List ℕ) (xs : List Float) (lists' hs' ns' : List ℕ) (xs' : List Float) (places r free : ℕ) : Option ℕ → Type 0 where
+  not_wanted : count_at lists r ≡ 0 → lists' ≡ lists → hs' ≡ hs → ns' ≡ ns → xs' ≡ xs → OneIs rs ls gs used margin cap lists hs ns xs lists' hs' ns' xs' places r free (Some free)
+  no_place : ListFilled rs ls gs used margin cap lists hs ns xs hs' ns' xs' places r free None → OneIs rs ls gs used margin cap lists hs ns xs lists' hs' ns' xs' places r free None
+  was_listed : (n : ℕ) → ListFilled rs ls gs used margin cap lists hs ns xs hs' ns' xs' places r free (Some n) → ListPut lists lists' r free (n - free)
+      → OneIs rs ls gs used margin cap lists hs ns xs lists' hs' ns' xs' places r free (Some n)
 
 -- ---- all of them
 
@@ -75,6 +75,6 @@ pub record ListsAsk (rs : List ℕ) (ls : List ℤ) (gs : List Float) (used : �
   pub links : List ℕ
   pub fair : Fair rs ls gs used margin cap lists h links
 
-pub record ListsAre (rs : List ℕ) (ls : List ℤ) (gs : List Float) (used : ℕ) (margin : Float) (cap : ℕ) (lists lists' hs ns : List ℕ) (xs : List Float) (places n : ℕ) : Type 0 where
+pub record ListsAre (rs : List ℕ) (ls : List ℤ) (gs : List Float) (used : ℕ) (margin : Float) (cap : ℕ) (lists lists' hs ns : List ℕ) (xs : List Float) (places : ℕ) (n : Option ℕ) : Type 0 where
   pub is : (h : ℕ → History) (links : List ℕ) → Fair rs ls gs used margin cap lists h links → Outcome h used margin cap links lists' hs ns xs places n
-  pub short : (n ≡ 0 → ⊥) → Short lists' hs ns xs used n
+  pub short : IfSome n (Short lists' hs ns xs used)

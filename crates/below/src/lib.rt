@@ -98,12 +98,7 @@ fn clear(lists: &mut [u32], used: u32)
     requires { used * 2 ≤ length lists.old }
     ensures { Cleared lists.new used }
 {
-    let mut k = 0;
-    while k < used {
-        lists[k as usize * 2] = 0;
-        lists[k as usize * 2 + 1] = 0;
-        k += 1;
-    }
+    lists[..used as usize * 2].fill(0);
 }
 
 // Marks a join whose list is wanted; 0 is none.
@@ -200,10 +195,8 @@ fn want_below(
     requires { (Walkable records.now labels.now used) × (used * 2 ≤ length gaps.now) × (used * 2 ≤ length lists.old) }
     ensures { BelowWanted records.now labels.now gaps.now used margin lists.old lists.new }
 {
-    let mut r = used;
-    while 0 < r {
-        want_ways(records, labels, gaps, used, margin, lists, r);
-        r -= 1;
+    for k in (0..used).rev() {
+        want_ways(records, labels, gaps, used, margin, lists, k + 1);
     }
 }
 
@@ -215,7 +208,7 @@ fn put_list(lists: &mut [u32], r: u32, first: u32, count: u32)
     lists[(r - 1) as usize * 2 + 1] = count;
 }
 
-// The list of record r, if it is wanted, at the entries from `free` on. Gives the next free entry, or 0 where the places are full.
+// The list of record r, if it is wanted, at the entries from `free` on. Gives the next free entry, or none where the places are full.
 fn fill_one(
     records: &[u32],
     labels: &[i32],
@@ -230,24 +223,21 @@ fn fill_one(
     places: u32,
     r: u32,
     free: u32,
-) -> u32
+) -> Option<u32>
     requires { OneAsks records.now labels.now gaps.now used lists.old hashes.old nexts.old sums.old places r free }
     ensures { OneIs records.now labels.now gaps.now used margin cap lists.old hashes.old nexts.old sums.old lists.new hashes.new nexts.new sums.new places r free result }
 {
     if count_of(lists, r) == 0 {
-        return free;
+        return Some(free);
     }
     let own = own_way(records, labels, lists, used, r);
     let kept = kept_way(records, labels, gaps, lists, used, r, margin);
-    let to = entries::fill_list(hashes, nexts, sums, own, kept, margin, cap, free, places);
-    if to == 0 {
-        return 0;
-    }
+    let to = entries::fill_list(hashes, nexts, sums, own, kept, margin, cap, free, places)?;
     put_list(lists, r, free, to - free);
-    to
+    Some(to)
 }
 
-// The wanted lists, in ascending order of the joins. Gives the next free entry, or 0 where the places are full.
+// The wanted lists, in ascending order of the joins. Gives the next free entry, or none where the places are full.
 fn fill_lists(
     records: &[u32],
     labels: &[i32],
@@ -260,14 +250,13 @@ fn fill_lists(
     nexts: &mut [u32],
     sums: &mut [f32],
     places: u32,
-) -> u32
+) -> Option<u32>
     requires { ListsAsk records.now labels.now gaps.now used margin cap lists.old hashes.old nexts.old sums.old places }
     ensures { ListsAre records.now labels.now gaps.now used margin cap lists.old lists.new hashes.new nexts.new sums.new places result }
 {
     let mut free: u32 = 1;
-    let mut k: u32 = 0;
-    while k < used {
-        let next = fill_one(
+    for k in 0..used {
+        free = fill_one(
             records,
             labels,
             gaps,
@@ -281,17 +270,12 @@ fn fill_lists(
             places,
             k + 1,
             free,
-        );
-        if next == 0 {
-            return 0;
-        }
-        free = next;
-        k += 1;
+        )?;
     }
-    free
+    Some(free)
 }
 
-// The Rust's `fill_below`, for the histories of the first n states. Gives the next free entry, or 0 where the places are full.
+// The Rust's `fill_below`, for the histories of the first n states. Gives the next free entry, or none where the places are full.
 pub fn fill_below(
     tokens: &[u32],
     side: u32,
@@ -308,7 +292,7 @@ pub fn fill_below(
     nexts: &mut [u32],
     sums: &mut [f32],
     places: u32,
-) -> u32
+) -> Option<u32>
     requires { (HeadsAsk tokens.now records.now labels.now side used heads.now n) × (BelowAsks records.now labels.now gaps.now used margin (head_links tokens.now side heads.now n) lists.old hashes.old nexts.old sums.old places) }
     ensures { BelowIs records.now labels.now gaps.now used margin cap (head_links tokens.now side heads.now n) lists.new hashes.new nexts.new sums.new places result }
 {

@@ -49,12 +49,10 @@ fn repeats(
     ensures { RepeatsIs tokens.now records.now labels.now side used to_join order.now keys.now places.now j result }
 {
     let link = tokens::link_at(tokens, side, order[places[j] as usize]);
-    let mut i = j;
-    while 0 < i {
-        if keys[i - 1] != keys[j] {
+    for i in (0..j).rev() {
+        if keys[i] != keys[j] {
             return false;
         }
-        i -= 1;
         let other = tokens::link_at(tokens, side, order[places[i] as usize]);
         if summaries::same_at(records, labels, used, history_skips, link, other, to_join) {
             return true;
@@ -63,6 +61,7 @@ fn repeats(
     false
 }
 
+// The list is lent over the C interface as numbers, so that a dropped state is marked by a number of no state.
 fn drop_at(order: &mut [u32], place: u32, again: bool)
     requires { place < length order.old }
     ensures { order.new ≡ cond again (set order.old place dropped) order.old }
@@ -89,9 +88,7 @@ fn drop_repeats(
     requires { (DropsAsk tokens.now records.now labels.now side used order.old n keys.now places.now) × (Skips records.now labels.now used used history_skips.now) }
     ensures { Dropped tokens.now records.now labels.now side used to_join order.old order.new n keys.now places.now }
 {
-    let mut j = n;
-    while 0 < j {
-        j -= 1;
+    for j in (0..n).rev() {
         let again = repeats(
             tokens,
             records,

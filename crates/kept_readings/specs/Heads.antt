@@ -1,5 +1,5 @@
 -- The heads: tokens of which the readings below their newest join are added to the map.
-use Rattle.std.specs.Prelude.{◌≡◌, ℕ, ◌+◌, ◌-◌, ◌*◌, ◌%◌, ◌^◌, ◌<◌, ◌≤◌, Bool, true, false, cond, not, ◌&&◌, ◌||◌, List, [], ◌∷◌, ◌++◌, map, length, take, ℤ, nat_lt, slice_index, slice_set, Float}
+use Rattle.std.specs.Prelude.{◌≡◌, ℕ, ◌+◌, ◌-◌, ◌*◌, ◌%◌, ◌^◌, ◌<◌, ◌≤◌, Bool, true, false, cond, not, ◌&&◌, ◌||◌, List, [], ◌∷◌, ◌++◌, map, length, take, ℤ, nat_lt, slice_index, slice_set, Float, Option, Some, None, is_some}
 use Rattle.lists.specs.Lists.{keep_if, range}
 use Rattle.model.specs.Basics.{◌≼◌, ◌⊕◌, ◌⊖◌, ◌⊗◌, 0f, 1f}
 use Rattle.model.specs.Reads.{graph_scale}
@@ -10,8 +10,6 @@ use Rattle.joins.specs.Walk.{Chains}
 use Rattle.histories.specs.declared.Hashed.{Hashed}
 use Rattle.histories.specs.Reading.{join_tag, EndIs, HashIs}
 use Rattle.traceback.specs.declared.Candidate.{Candidate}
-use Rattle.traceback.specs.declared.Best.{Best}
-use Rattle.traceback.specs.declared.Best.TheVariants.{Nobody, Token}
 use Rattle.traceback.specs.Ranks.{candidate_at}
 use Rattle.groups.specs.Firsts.{link_at}
 use Rattle.entries.specs.declared.Entry.{Entry}
@@ -40,9 +38,9 @@ abbrev pub kept_starts_from : (hs ns : List ℕ) → List Float → Candidate �
 kept_starts_from hs ns xs c counts above from n = map (λ (e : ℕ). kept_by c counts above e (entry_at hs ns xs e)) (range from n)
 
 -- the first of a list is the token's own path, which is no kept reading
-abbrev pub kept_under : (hs ns : List ℕ) → List Float → Best → (counts : Bool) → (bound : Float) → Hashed → (first count : ℕ) → List KeptReading
-kept_under hs ns xs Nobody counts bound above first count = []
-kept_under hs ns xs (Token c) counts bound above first count = within bound (kept_starts_from hs ns xs c counts above (first + 1) (count - 1))
+abbrev pub kept_under : (hs ns : List ℕ) → List Float → Option Candidate → (counts : Bool) → (bound : Float) → Hashed → (first count : ℕ) → List KeptReading
+kept_under hs ns xs None counts bound above first count = []
+kept_under hs ns xs (Some c) counts bound above first count = within bound (kept_starts_from hs ns xs c counts above (first + 1) (count - 1))
 
 -- the entries of a list have places, and no number of words passes u32
 pub record EntriesAsk (hs ns : List ℕ) (xs : List Float) (first count len : ℕ) : Type 0 where
@@ -68,7 +66,7 @@ pub record HeadKept (tk : List ℕ) (sm fs : List Float) (rs : List ℕ) (ls : L
   pub is : ks ≡ kept_under hs ns xs (candidate_at tk sm fs b s counts) counts bound above (first_at lists join) (count_at lists join)
 
 pub record HeadAdded (tk : List ℕ) (sm fs : List Float) (rs : List ℕ) (ls : List ℤ) (b used : ℕ) (counts : Bool) (bound : Float) (lists hs ns : List ℕ) (xs : List Float) (s : ℕ)
-    (khs kns : List ℕ) (kxs : List Float) (n places : ℕ) (khs' kns' : List ℕ) (kxs' : List Float) (r : ℕ) : Type 0 where
+    (khs kns : List ℕ) (kxs : List Float) (n places : ℕ) (khs' kns' : List ℕ) (kxs' : List Float) (r : Option ℕ) : Type 0 where
   pub ks : List KeptReading
   pub are : HeadKept tk sm fs rs ls b used counts bound lists hs ns xs s ks
   pub added : Added khs kns kxs n ks places khs' kns' kxs' r
@@ -90,10 +88,10 @@ pub record FillAsks (tk : List ℕ) (sm fs : List Float) (rs : List ℕ) (ls : L
 
 -- The map of what is below the first j heads; these are all where there are places for it.
 pub record FillIs (tk : List ℕ) (sm fs : List Float) (rs : List ℕ) (ls : List ℤ) (b used : ℕ) (counts : Bool) (bound : Float) (heads : List ℕ) (m : ℕ) (lists hs ns : List ℕ) (xs : List Float)
-    (khs kns : List ℕ) (kxs : List Float) (places : ℕ) (khs' kns' : List ℕ) (kxs' : List Float) (r : ℕ) : Type 0 where
+    (khs kns : List ℕ) (kxs : List Float) (places : ℕ) (khs' kns' : List ℕ) (kxs' : List Float) (r : Option ℕ) : Type 0 where
   pub j : ℕ
   pub few : j ≤ m
-  pub all : r ≤ places → j ≡ m
+  pub all : is_some r ≡ true → j ≡ m
   pub ks : List KeptReading
   pub are : HeadsKept tk sm fs rs ls b used counts bound lists hs ns xs (take j heads) ks
   pub added : Added khs kns kxs 0 ks places khs' kns' kxs' r
@@ -101,9 +99,9 @@ pub record FillIs (tk : List ℕ) (sm fs : List Float) (rs : List ℕ) (ls : Lis
 -- ---- which tokens are heads
 
 -- a token that ranks below the bound
-abbrev pub best_within : Float → Best → Bool
-best_within bound Nobody = false
-best_within bound (Token c) = not (bound ≼ c.rank)
+abbrev pub best_within : Float → Option Candidate → Bool
+best_within bound None = false
+best_within bound (Some c) = not (bound ≼ c.rank)
 
 -- a kept reading of its token can rank below the bound
 abbrev pub may_rank : List ℕ → (sm fs : List Float) → (side : ℕ) → (counts : Bool) → (bound : Float) → (s : ℕ) → Bool

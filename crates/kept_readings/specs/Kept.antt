@@ -1,5 +1,5 @@
 -- The kept readings as lent slices hold them, and the map of them: of each hash and number of words the best.
-use Rattle.std.specs.Prelude.{◌≡◌, ℕ, ◌+◌, ◌*◌, ◌<◌, ◌≤◌, Bool, true, false, cond, not, ◌&&◌, ◌||◌, List, [], ◌∷◌, map, length, ◌==◌, ◌≢◌, nat_lt, slice_index, slice_index_or, Float}
+use Rattle.std.specs.Prelude.{◌≡◌, ℕ, ◌+◌, ◌*◌, ◌<◌, ◌≤◌, Bool, true, false, cond, not, ◌&&◌, ◌||◌, List, [], ◌∷◌, map, length, ◌==◌, ◌≢◌, nat_lt, slice_index, slice_index_or, Float, Option, Some, None}
 use Rattle.std.specs.Float.{nan}
 use Rattle.std.specs.Float.Ieee.{eq}
 use Rattle.lists.specs.Lists.{keep_if, range}
@@ -38,11 +38,14 @@ pub record KeptPut (hs ns : List ℕ) (xs : List Float) (hs' ns' : List ℕ) (xs
   pub is : kept_read_in hs' ns' xs' i ≡ k
   pub others : (j : ℕ) → (j ≢ i) → kept_read_in hs' ns' xs' j ≡ kept_read_in hs ns xs j
 
--- the first place of k's words, n for none
-pub record FoundAt (hs ns : List ℕ) (xs : List Float) (n : ℕ) (k : KeptReading) (r : ℕ) : Type 0 where
-  pub few : r ≤ n
-  pub before : (i : ℕ) → i < r → same_kept k (kept_read_in hs ns xs i) ≡ false
-  pub found : r < n → same_kept k (kept_read_in hs ns xs r) ≡ true
+-- none of the first n has k's words
+abbrev pub NoneHas : (hs ns : List ℕ) → List Float → (n : ℕ) → KeptReading → Type 0
+NoneHas hs ns xs n k = (i : ℕ) → i < n → same_kept k (kept_read_in hs ns xs i) ≡ false
+
+-- the first place of k's words
+pub data FoundAt (hs ns : List ℕ) (xs : List Float) (n : ℕ) (k : KeptReading) : Option ℕ → Type 0 where
+  is_found : (i : ℕ) → i < n → NoneHas hs ns xs i k → same_kept k (kept_read_in hs ns xs i) ≡ true → FoundAt hs ns xs n k (Some i)
+  not_found : NoneHas hs ns xs n k → FoundAt hs ns xs n k None
 
 module _ {A : Type 0} (same sooner : A → A → Bool) where
   -- one more: it takes the place of the one with its words where it comes sooner, and stands last where there is none
@@ -62,9 +65,9 @@ abbrev pub all_of : List KeptReading → List KeptReading
 all_of ks = add_kept [] ks
 
 -- n places hold the map; these are added to it, or there are more then than the places
-pub data Added (hs ns : List ℕ) (xs : List Float) (n : ℕ) (ks : List KeptReading) (places : ℕ) (hs' ns' : List ℕ) (xs' : List Float) (r : ℕ) : Type 0 where
-  are_added : r ≤ places → kept_list hs' ns' xs' r ≡ add_kept (kept_list hs ns xs n) ks → Added hs ns xs n ks places hs' ns' xs' r
-  are_more : r ≡ places + 1 → places < length (add_kept (kept_list hs ns xs n) ks) → Added hs ns xs n ks places hs' ns' xs' r
+pub data Added (hs ns : List ℕ) (xs : List Float) (n : ℕ) (ks : List KeptReading) (places : ℕ) (hs' ns' : List ℕ) (xs' : List Float) : Option ℕ → Type 0 where
+  are_added : (r : ℕ) → r ≤ places → kept_list hs' ns' xs' r ≡ add_kept (kept_list hs ns xs n) ks → Added hs ns xs n ks places hs' ns' xs' (Some r)
+  are_more : places < length (add_kept (kept_list hs ns xs n) ks) → Added hs ns xs n ks places hs' ns' xs' None
 
 -- those that rank below the bound
 abbrev pub ranks_below : Float → KeptReading → Bool

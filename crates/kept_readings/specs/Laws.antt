@@ -1,11 +1,11 @@
 -- Laws of the steps. Assumes nothing.
-use Rattle.std.specs.Prelude.{◌≡◌, ℕ, zero, suc, ◌+◌, ◌*◌, ◌<◌, ◌≤◌, Bool, true, false, cond, not, List, [], ◌∷◌, ◌++◌, map, length, ◌≢◌, slice_index, slice_index_or, slice_set, refl, Float}
+use Rattle.std.specs.Prelude.{◌≡◌, ℕ, zero, suc, ◌+◌, ◌*◌, ◌<◌, ◌≤◌, Bool, true, false, cond, not, List, [], ◌∷◌, ◌++◌, map, length, ◌≢◌, slice_index, slice_index_or, slice_set, refl, Float, Option, Some, None}
 use Rattle.std.proofs.Common.{sym, ap, ap₂, ◌∙◌, subst, arith, length-set, get_or-set_same, get_or-set_other}
 use Rattle.std.specs.Float.{nan}
 use Rattle.lists.specs.Lists.{range}
 use Rattle.model.specs.Basics.{◌≼◌}
 use Rattle.kept_readings.specs.declared.KeptReading.{KeptReading}
-use Rattle.kept_readings.specs.Kept.{kept_read_in, kept_list, Room, same_kept, sooner_kept, sooner_of, KeptPut, FoundAt, add_kept, Added, are_added, are_more, within}
+use Rattle.kept_readings.specs.Kept.{kept_read_in, kept_list, Room, same_kept, sooner_kept, sooner_of, KeptPut, NoneHas, FoundAt, is_found, not_found, add_kept, Added, are_added, are_more, within}
 use Rattle.kept_readings.specs.Adding.{all-length, all_then, add_new, add_same}
 
 -- ---- a kept reading put in its place
@@ -82,21 +82,31 @@ length_last : (ys : List KeptReading) (k : KeptReading) → length (ys ++ k ∷ 
 length_last [] k = refl
 length_last (y ∷ ys) k = let z = length_last ys k in omega arith
 
-module _ {hs ns : List ℕ} {xs : List Float} {n : ℕ} {k : KeptReading} {p : ℕ} (F : FoundAt hs ns xs n k p) {places : ℕ} (few : n ≤ places) where
-  pub added_there : {hs' ns' : List ℕ} {xs' : List Float} → p < n → KeptPut hs ns xs hs' ns' xs' p (sooner_of k (kept_read_in hs ns xs p)) → Added hs ns xs n (k ∷ []) places hs' ns' xs' n
-  added_there {hs'} {ns'} {xs'} l P =
-      are_added few (sym (add_same same_kept sooner_kept k (kept_read_in hs ns xs) (kept_read_in hs' ns' xs') 0 n p (omega arith) (omega arith) (λ i a u. F.before i u) (F.found l) P.is P.others))
+pub in_places : {hs ns : List ℕ} {xs : List Float} {n : ℕ} {k : KeptReading} {p : ℕ} → FoundAt hs ns xs n k (Some p) → p < n
+in_places (is_found i l B f) = l
 
-  is_new : n ≤ p → add_kept (kept_list hs ns xs n) (k ∷ []) ≡ kept_list hs ns xs n ++ k ∷ []
-  is_new l = add_new same_kept sooner_kept k (kept_read_in hs ns xs) 0 n (λ i a u. F.before i (omega arith))
+module _ {hs ns : List ℕ} {xs : List Float} {n : ℕ} {k : KeptReading} {p places : ℕ} (few : n ≤ places) where
+  added_at : p < n → NoneHas hs ns xs p k → same_kept k (kept_read_in hs ns xs p) ≡ true → {hs' ns' : List ℕ} {xs' : List Float} → KeptPut hs ns xs hs' ns' xs' p (sooner_of k (kept_read_in hs ns xs p)) → Added hs ns xs n (k ∷ []) places hs' ns' xs' (Some n)
+  added_at l B f {hs'} {ns'} {xs'} P =
+      are_added n few (sym (add_same same_kept sooner_kept k (kept_read_in hs ns xs) (kept_read_in hs' ns' xs') 0 n p (omega arith) (omega arith) (λ i a u. B i u) f P.is P.others))
 
-  pub added_full : {hs' ns' : List ℕ} {xs' : List Float} → n ≤ p → n ≡ places → Added hs ns xs n (k ∷ []) places hs' ns' xs' (n + 1)
-  added_full l e =
-      are_more (ap (λ (z : ℕ). z + 1) e)
-      (let z : length (add_kept (kept_list hs ns xs n) (k ∷ [])) ≡ n + 1 = ap length (is_new l) ∙ length_last (kept_list hs ns xs n) k ∙ ap (λ (z : ℕ). z + 1) (list_length hs ns xs n) in omega arith)
+  pub added_there : FoundAt hs ns xs n k (Some p) → {hs' ns' : List ℕ} {xs' : List Float} → KeptPut hs ns xs hs' ns' xs' p (sooner_of k (kept_read_in hs ns xs p)) → Added hs ns xs n (k ∷ []) places hs' ns' xs' (Some n)
+  added_there (is_found i l B f) P = added_at l B f P
 
-  pub added_new : {hs' ns' : List ℕ} {xs' : List Float} → n ≤ p → (n ≢ places) → KeptPut hs ns xs hs' ns' xs' n k → Added hs ns xs n (k ∷ []) places hs' ns' xs' (n + 1)
-  added_new {hs'} {ns'} {xs'} l d P = are_added (omega arith) (last_of 0 n n (omega arith) (λ i a u. P.others i (λ e. omega arith)) P.is ∙ sym (is_new l))
+module _ {hs ns : List ℕ} {xs : List Float} {n : ℕ} {k : KeptReading} (F : FoundAt hs ns xs n k None) {places : ℕ} (few : n ≤ places) where
+  none_has : FoundAt hs ns xs n k None → NoneHas hs ns xs n k
+  none_has (not_found B) = B
+
+  is_new : add_kept (kept_list hs ns xs n) (k ∷ []) ≡ kept_list hs ns xs n ++ k ∷ []
+  is_new = add_new same_kept sooner_kept k (kept_read_in hs ns xs) 0 n (λ i a u. none_has F i (omega arith))
+
+  pub added_full : {hs' ns' : List ℕ} {xs' : List Float} → n ≡ places → Added hs ns xs n (k ∷ []) places hs' ns' xs' None
+  added_full e =
+      are_more
+      (let z : length (add_kept (kept_list hs ns xs n) (k ∷ [])) ≡ n + 1 = ap length is_new ∙ length_last (kept_list hs ns xs n) k ∙ ap (λ (z : ℕ). z + 1) (list_length hs ns xs n) in omega arith)
+
+  pub added_new : {hs' ns' : List ℕ} {xs' : List Float} → (n ≢ places) → KeptPut hs ns xs hs' ns' xs' n k → Added hs ns xs n (k ∷ []) places hs' ns' xs' (Some (n + 1))
+  added_new {hs'} {ns'} {xs'} d P = are_added (n + 1) (omega arith) (last_of 0 n n (omega arith) (λ i a u. P.others i (λ e. omega arith)) P.is ∙ sym is_new)
     where
       last_of : (a m z : ℕ) → a + m ≡ z → ((i : ℕ) → a ≤ i → i < z → kept_read_in hs' ns' xs' i ≡ kept_read_in hs ns xs i) → kept_read_in hs' ns' xs' z ≡ k → map (kept_read_in hs' ns' xs') (range a (m + 1)) ≡ map (kept_read_in hs ns xs) (range a m) ++ k ∷ []
       last_of a zero z q o e = ap (λ (x : KeptReading). x ∷ []) (subst (λ (z : ℕ). kept_read_in hs' ns' xs' z ≡ k) (let w : z ≡ a = omega arith in w) e)
@@ -107,28 +117,29 @@ module _ {hs ns : List ℕ} {xs : List Float} {n : ℕ} {k : KeptReading} {p : �
 -- ---- more and more
 
 module _ {hs ns : List ℕ} {xs : List Float} {n places : ℕ} where
-  pub added_none : n ≤ places → Added hs ns xs n [] places hs ns xs n
-  added_none l = are_added l refl
+  pub added_none : n ≤ places → Added hs ns xs n [] places hs ns xs (Some n)
+  added_none l = are_added n l refl
 
-  module _ {ks : List KeptReading} (ls : List KeptReading) {hs' ns' : List ℕ} {xs' : List Float} {m : ℕ} where
-    pub added_then : {hs'' ns'' : List ℕ} {xs'' : List Float} {r : ℕ} → m ≤ places → Added hs ns xs n ks places hs' ns' xs' m → Added hs' ns' xs' m ls places hs'' ns'' xs'' r → Added hs ns xs n (ks ++ ls) places hs'' ns'' xs'' r
-    added_then f (are_more e l) b = absurd (omega arith)
-    added_then f (are_added w e) (are_added v d) = are_added v (d ∙ ap (λ (l : List KeptReading). add_kept l ls) e ∙ sym (all_then same_kept sooner_kept (kept_list hs ns xs n) ks ls))
-    added_then f (are_added w e) (are_more v d) = are_more v (subst (λ (l : List KeptReading). places < length l) (ap (λ (l : List KeptReading). add_kept l ls) e ∙ sym (all_then same_kept sooner_kept (kept_list hs ns xs n) ks ls)) d)
+  pub added_fits : {ks : List KeptReading} {hs' ns' : List ℕ} {xs' : List Float} {r : ℕ} → Added hs ns xs n ks places hs' ns' xs' (Some r) → r ≤ places
+  added_fits (are_added r l e) = l
+
+  module _ {ks : List KeptReading} (ls : List KeptReading) {hs' ns' : List ℕ} {xs' : List Float} where
+    pub added_then : {m : ℕ} {hs'' ns'' : List ℕ} {xs'' : List Float} {r : Option ℕ} → Added hs ns xs n ks places hs' ns' xs' (Some m) → Added hs' ns' xs' m ls places hs'' ns'' xs'' r → Added hs ns xs n (ks ++ ls) places hs'' ns'' xs'' r
+    added_then (are_added k w e) (are_added r v d) = are_added r v (d ∙ ap (λ (l : List KeptReading). add_kept l ls) e ∙ sym (all_then same_kept sooner_kept (kept_list hs ns xs n) ks ls))
+    added_then (are_added k w e) (are_more d) = are_more (subst (λ (l : List KeptReading). places < length l) (ap (λ (l : List KeptReading). add_kept l ls) e ∙ sym (all_then same_kept sooner_kept (kept_list hs ns xs n) ks ls)) d)
 
     -- what does not fit now never will
-    pub added_short : places < m → Added hs ns xs n ks places hs' ns' xs' m → Added hs ns xs n (ks ++ ls) places hs' ns' xs' m
-    added_short f (are_added w e) = absurd (omega arith)
-    added_short f (are_more e l) =
-        are_more e (subst (λ (l : List KeptReading). places < length l) (sym (all_then same_kept sooner_kept (kept_list hs ns xs n) ks ls))
+    pub added_short : Added hs ns xs n ks places hs' ns' xs' None → Added hs ns xs n (ks ++ ls) places hs' ns' xs' None
+    added_short (are_more l) =
+        are_more (subst (λ (l : List KeptReading). places < length l) (sym (all_then same_kept sooner_kept (kept_list hs ns xs n) ks ls))
         (let z = all-length same_kept sooner_kept (add_kept (kept_list hs ns xs n) ks) ls in omega arith))
 
   module _ (bound : Float) (k : KeptReading) where
-    pub added_not : (bound ≼ k.rank) ≡ true → n ≤ places → Added hs ns xs n (within bound (k ∷ [])) places hs ns xs n
-    added_not t l = subst (λ (b : Bool). Added hs ns xs n (cond (not b) (k ∷ []) []) places hs ns xs n) (sym t) (added_none l)
+    pub added_not : (bound ≼ k.rank) ≡ true → n ≤ places → Added hs ns xs n (within bound (k ∷ [])) places hs ns xs (Some n)
+    added_not t l = subst (λ (b : Bool). Added hs ns xs n (cond (not b) (k ∷ []) []) places hs ns xs (Some n)) (sym t) (added_none l)
 
-    pub added_within : {hs' ns' : List ℕ} {xs' : List Float} {r : ℕ} → (bound ≼ k.rank) ≡ false → Added hs ns xs n (k ∷ []) places hs' ns' xs' r → Added hs ns xs n (within bound (k ∷ [])) places hs' ns' xs' r
+    pub added_within : {hs' ns' : List ℕ} {xs' : List Float} {r : Option ℕ} → (bound ≼ k.rank) ≡ false → Added hs ns xs n (k ∷ []) places hs' ns' xs' r → Added hs ns xs n (within bound (k ∷ [])) places hs' ns' xs' r
     added_within {hs'} {ns'} {xs'} {r} f A = subst (λ (b : Bool). Added hs ns xs n (cond (not b) (k ∷ []) []) places hs' ns' xs' r) (sym f) A
 
-    pub added_as : {j : KeptReading} {hs' ns' : List ℕ} {xs' : List Float} {r : ℕ} → k ≡ j → Added hs ns xs n (within bound (k ∷ [])) places hs' ns' xs' r → Added hs ns xs n (within bound (j ∷ [])) places hs' ns' xs' r
+    pub added_as : {j : KeptReading} {hs' ns' : List ℕ} {xs' : List Float} {r : Option ℕ} → k ≡ j → Added hs ns xs n (within bound (k ∷ [])) places hs' ns' xs' r → Added hs ns xs n (within bound (j ∷ [])) places hs' ns' xs' r
     added_as {j} {hs'} {ns'} {xs'} {r} e A = subst (λ (i : KeptReading). Added hs ns xs n (within bound (i ∷ [])) places hs' ns' xs' r) e A

@@ -1,5 +1,5 @@
 -- What is added for the heads is what the definition has below them. Assumes nothing.
-use Rattle.std.specs.Prelude.{◌≡◌, ℕ, zero, suc, ◌+◌, ◌-◌, ◌*◌, ◌%◌, ◌^◌, ◌<◌, ◌≤◌, Bool, true, false, cond, not, List, [], ◌∷◌, ◌++◌, map, length, ℤ, refl, Float}
+use Rattle.std.specs.Prelude.{◌≡◌, ℕ, zero, suc, ◌+◌, ◌-◌, ◌*◌, ◌%◌, ◌^◌, ◌<◌, ◌≤◌, Bool, true, false, cond, not, List, [], ◌∷◌, ◌++◌, map, length, ℤ, refl, Float, Option as RustOption, Some, None}
 use Rattle.std.proofs.Common.{sym, ◌∙◌, arith}
 use Rattle.std.proofs.Math.Path.{ap, ap₂, subst}
 use Rattle.std.proofs.Math.Option.{Option}
@@ -25,8 +25,6 @@ use Rattle.histories.specs.declared.Hashed.{Hashed}
 use Rattle.histories.specs.Reading.{join_tag, read_words, hashed, EndIs, HashIs}
 use Rattle.histories.specs.Laws.{end_words}
 use Rattle.traceback.specs.declared.Candidate.{Candidate}
-use Rattle.traceback.specs.declared.Best.{Best}
-use Rattle.traceback.specs.declared.Best.TheVariants.{Nobody, Token}
 use Rattle.traceback.specs.Ranks.{rank_in, candidate_of, candidate_at, CandidateIs}
 use Rattle.traceback.specs.Ranking.{candidate_is, weight_is}
 use Rattle.ranking.specs.Ranked.{ranked_at, token_in}
@@ -131,7 +129,7 @@ pub record Head (g : Graph) (tk : List ℕ) (b n : ℕ) (counts : Bool) (ts : Ta
 -- its candidate and its record
 pub record Stood (g : Graph) (h : ℕ → History) (used : ℕ) (tk : List ℕ) (sm fs : List Float) (b : ℕ) (counts : Bool) (ts : Table) (s : ℕ) : Type 0 where
   pub candidate : Candidate
-  pub is : candidate_at tk sm fs b s counts ≡ Token candidate
+  pub is : candidate_at tk sm fs b s counts ≡ Some candidate
   pub head : HeadIs candidate (ranked_at g counts ts s) s
   pub seq : candidate.seq ≡ (ranked_at g counts ts s).token.seq
   pub link : Is h used (link_at tk b s) (ranked_at g counts ts s).token.path
@@ -149,7 +147,7 @@ module _ {h : ℕ → History} {used : ℕ} {tk : List ℕ} {sm fs : List Float}
       let v : finite (y.cost ⊕ x) ≡ true = ap finite (i.cost ∙ ap (λ (u : Ranked). u.cost) (sym r)) ∙ H.counted in
       record {
         candidate = c;
-        is = ap₂ (λ (t : Stored) (u : Float). candidate_of s t u counts) (stored_is w a) (weight_is g fs s counts q (let z = H.inside in omega arith)) ∙ ap (λ (z : Bool). cond z (Token c) Nobody) v;
+        is = ap₂ (λ (t : Stored) (u : Float). candidate_of s t u counts) (stored_is w a) (weight_is g fs s counts q (let z = H.inside in omega arith)) ∙ ap (λ (z : Bool). cond z (Some c) None) v;
         head = record { state = refl; rank = i.rank ∙ ap (λ (u : Ranked). u.rank) (sym r); cost = i.cost ∙ ap (λ (u : Ranked). u.cost) (sym r) };
         seq = i.seq ∙ ap (λ (u : Ranked). u.token.seq) (sym r);
         link = subst (λ (u : Ranked). Is h used (link_at tk b s) u.token.path) (sym r) (subst (λ (k : ℕ). Is h used k a.token.path) (sym (ap (λ (t : Stored). t.link) (stored_is w a))) a.is.link);
@@ -194,7 +192,7 @@ module _ {rs : List ℕ} {ls : List ℤ} {used : ℕ} (gs : List Float) (h : ℕ
           let c = S.candidate in
           let a = first_at lists join in
           let k = count_at lists join in
-          ap (λ (x : Best). map (as_kept rank_of L.bs) (kept_under hs ns xs x counts bound above a k)) S.is
+          ap (λ (x : RustOption Candidate). map (as_kept rank_of L.bs) (kept_under hs ns xs x counts bound above a k)) S.is
           ∙ keep-map (as_kept rank_of L.bs) (ranks_below bound) (kept_within bound) (λ x. refl) (kept_starts_from hs ns xs c counts above (a + 1) (k - 1))
           ∙ ap (keep_if (kept_within bound))
           (map-map (as_kept rank_of L.bs) (λ (e : ℕ). kept_by c counts above e (entry_at hs ns xs e)) (range (a + 1) (k - 1))

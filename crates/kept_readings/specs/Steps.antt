@@ -1,17 +1,15 @@
 -- Laws of the loops over entries and heads. Assumes nothing.
-use Rattle.std.specs.Prelude.{◌≡◌, ℕ, zero, suc, ◌+◌, ◌-◌, ◌<◌, ◌≤◌, Bool, true, false, cond, not, ◌&&◌, List, [], ◌∷◌, ◌++◌, map, length, take, ℤ, ◌==◌, ◌≢◌, nat_lt, slice_index, slice_index_or, slice_set, refl, Float}
+use Rattle.std.specs.Prelude.{◌≡◌, ℕ, zero, suc, ◌+◌, ◌-◌, ◌<◌, ◌≤◌, Bool, true, false, cond, not, ◌&&◌, List, [], ◌∷◌, ◌++◌, map, length, take, ℤ, ◌==◌, ◌≢◌, nat_lt, slice_index, slice_index_or, slice_set, refl, Float, Option, Some, None}
 use Rattle.std.proofs.Math.Path.{sym, ap}
 use Rattle.std.proofs.Common.{ap₂, ◌∙◌, subst, arith, length-set, get_or-set_same, get_or-set_other, lt-ltb, le-ltb, eq-eqb, ne_eqb}
 use Rattle.lists.specs.Lists.{keep_if, range}
-use Rattle.lists.specs.Tests.{case, eq_or_not}
+use Rattle.lists.specs.Tests.{case, eq_or_not, never}
 use Rattle.records.specs.History.{History, tag}
 use Rattle.records.specs.Layout.{store}
 use Rattle.records.specs.Stands.{Stands}
 use Rattle.histories.specs.declared.Hashed.{Hashed}
 use Rattle.histories.specs.Reading.{join_tag, EndIs, HashIs}
 use Rattle.traceback.specs.declared.Candidate.{Candidate}
-use Rattle.traceback.specs.declared.Best.{Best}
-use Rattle.traceback.specs.declared.Best.TheVariants.{Nobody, Token}
 use Rattle.traceback.specs.Ranks.{candidate_at}
 use Rattle.groups.specs.Firsts.{link_at}
 use Rattle.entries.specs.Entries.{entry_at}
@@ -19,7 +17,7 @@ use Rattle.below.specs.Stored.{first_at, count_at}
 use Rattle.kept_readings.specs.declared.KeptReading.{KeptReading}
 use Rattle.kept_readings.specs.Kept.{Room, Added, ranks_below, within}
 use Rattle.kept_readings.specs.Heads.{kept_by, kept_starts_from, kept_under, EntriesAsk, HeadAsks, HeadKept, HeadAdded, HeadsKept, no_heads, head_on, FillIs, may_rank, IsHeadIs, KeptIf, not_kept, is_kept}
-use Rattle.kept_readings.specs.Laws.{added_none, added_then, added_short}
+use Rattle.kept_readings.specs.Laws.{added_none, added_fits, added_then, added_short}
 
 -- the slices keep their lengths
 pub record Sized (hs ns : List ℕ) (xs : List Float) (hs' ns' : List ℕ) (xs' : List Float) : Type 0 where
@@ -60,37 +58,34 @@ module _ (hs ns : List ℕ) (xs : List Float) (c : Candidate) (counts : Bool) (a
     pub few : i - 1 ≤ count - 1
     pub fits : m ≤ places
     pub sized : Sized khs kns kxs khs' kns' kxs'
-    pub added : Added khs kns kxs n (some_below (i - 1)) places khs' kns' kxs' m
+    pub added : Added khs kns kxs n (some_below (i - 1)) places khs' kns' kxs' (Some m)
 
   pub below_none : n ≤ places → BelowTo 1 khs kns kxs n
   below_none l = record { low = omega arith; few = omega arith; fits = l; sized = sized_same; added = added_none l }
 
   module _ {i : ℕ} {khs' kns' : List ℕ} {kxs' : List Float} {m : ℕ} (B : BelowTo i khs' kns' kxs' m) where
-    pub below_all : count ≤ i → Added khs kns kxs n (some_below (count - 1)) places khs' kns' kxs' m
-    below_all l = subst (λ (k : ℕ). Added khs kns kxs n (some_below k) places khs' kns' kxs' m) (let z = B.few in let e : i - 1 ≡ count - 1 = omega arith in e) B.added
+    pub below_all : count ≤ i → Added khs kns kxs n (some_below (count - 1)) places khs' kns' kxs' (Some m)
+    below_all l = subst (λ (k : ℕ). Added khs kns kxs n (some_below k) places khs' kns' kxs' (Some m)) (let z = B.few in let e : i - 1 ≡ count - 1 = omega arith in e) B.added
 
-    module _ (l : i < count) {khs'' kns'' : List ℕ} {kxs'' : List Float} {r : ℕ} (A : Added khs' kns' kxs' m (within bound (kept_by c counts above (first + i) (entry_at hs ns xs (first + i)) ∷ [])) places khs'' kns'' kxs'' r) where
+    module _ (l : i < count) {khs'' kns'' : List ℕ} {kxs'' : List Float} {r : Option ℕ} (A : Added khs' kns' kxs' m (within bound (kept_by c counts above (first + i) (entry_at hs ns xs (first + i)) ∷ [])) places khs'' kns'' kxs'' r) where
       one_more : Added khs kns kxs n (some_below i) places khs'' kns'' kxs'' r
       one_more =
           subst (λ (ks : List KeptReading). Added khs kns kxs n ks places khs'' kns'' kxs'' r)
           (kept_parts (ranks_below bound) (λ (e : ℕ). kept_by c counts above e (entry_at hs ns xs e)) (first + 1) (i - 1) (first + i) 1 (let z = B.low in omega arith) ∙ ap some_below (let z = B.low in let e : i - 1 + 1 ≡ i = omega arith in e))
-          (added_then (within bound (kept_by c counts above (first + i) (entry_at hs ns xs (first + i)) ∷ [])) B.fits B.added A)
+          (added_then (within bound (kept_by c counts above (first + i) (entry_at hs ns xs (first + i)) ∷ [])) B.added A)
 
-      pub below_next : Sized khs' kns' kxs' khs'' kns'' kxs'' → r ≤ places → BelowTo (i + 1) khs'' kns'' kxs'' r
-      below_next s f =
-          record {
-            low = omega arith;
-            few = omega arith;
-            fits = f;
-            sized = sized_then B.sized s;
-            added = subst (λ (k : ℕ). Added khs kns kxs n (some_below k) places khs'' kns'' kxs'' r) (let e : i ≡ i + 1 - 1 = omega arith in e) one_more;
-          }
+      one_below : Added khs kns kxs n (some_below (i + 1 - 1)) places khs'' kns'' kxs'' r
+      one_below = subst (λ (k : ℕ). Added khs kns kxs n (some_below k) places khs'' kns'' kxs'' r) (let e : i ≡ i + 1 - 1 = omega arith in e) one_more
 
-      pub below_short : places < r → Added khs kns kxs n (some_below (count - 1)) places khs'' kns'' kxs'' r
-      below_short f =
-          subst (λ (ks : List KeptReading). Added khs kns kxs n ks places khs'' kns'' kxs'' r)
+    module _ (l : i < count) {khs'' kns'' : List ℕ} {kxs'' : List Float} where
+      pub below_next : {r : ℕ} → Added khs' kns' kxs' m (within bound (kept_by c counts above (first + i) (entry_at hs ns xs (first + i)) ∷ [])) places khs'' kns'' kxs'' (Some r) → Sized khs' kns' kxs' khs'' kns'' kxs'' → BelowTo (i + 1) khs'' kns'' kxs'' r
+      below_next A s = record { low = omega arith; few = omega arith; fits = added_fits A; sized = sized_then B.sized s; added = one_below l A }
+
+      pub below_short : Added khs' kns' kxs' m (within bound (kept_by c counts above (first + i) (entry_at hs ns xs (first + i)) ∷ [])) places khs'' kns'' kxs'' None → Added khs kns kxs n (some_below (count - 1)) places khs'' kns'' kxs'' None
+      below_short A =
+          subst (λ (ks : List KeptReading). Added khs kns kxs n ks places khs'' kns'' kxs'' None)
           (kept_parts (ranks_below bound) (λ (e : ℕ). kept_by c counts above e (entry_at hs ns xs e)) (first + 1) i (first + 1 + i) (count - 1 - i) refl ∙ ap some_below (let e : i + (count - 1 - i) ≡ count - 1 = omega arith in e))
-          (added_short (within bound (kept_starts_from hs ns xs c counts above (first + 1 + i) (count - 1 - i))) f one_more)
+          (added_short (within bound (kept_starts_from hs ns xs c counts above (first + 1 + i) (count - 1 - i))) (one_more l A))
 
 -- ---- one head
 
@@ -102,7 +97,7 @@ module _ {tk : List ℕ} {sm fs : List Float} {rs : List ℕ} {ls : List ℤ} {b
       (A.below join above (subst (λ (x : ℕ). EndIs rs ls used x true join) at E) (subst (λ (x : ℕ). HashIs rs ls used x join above) at H)))
 
   module _ {counts : Bool} {bound : Float} {khs kns : List ℕ} {kxs : List Float} {n places : ℕ} where
-    head_of : {khs' kns' : List ℕ} {kxs' : List Float} {r : ℕ} (best : Best) → candidate_at tk sm fs b s counts ≡ best → Added khs kns kxs n (kept_under hs ns xs best counts bound above (first_at lists join) (count_at lists join)) places khs' kns' kxs' r
+    head_of : {khs' kns' : List ℕ} {kxs' : List Float} {r : Option ℕ} (best : Option Candidate) → candidate_at tk sm fs b s counts ≡ best → Added khs kns kxs n (kept_under hs ns xs best counts bound above (first_at lists join) (count_at lists join)) places khs' kns' kxs' r
         → HeadAdded tk sm fs rs ls b used counts bound lists hs ns xs s khs kns kxs n places khs' kns' kxs' r
     head_of best e A =
         record {
@@ -112,18 +107,18 @@ module _ {tk : List ℕ} {sm fs : List Float} {rs : List ℕ} {ls : List ℤ} {b
             above = above;
             end_is = subst (λ (x : ℕ). EndIs rs ls used x true join) at E;
             hash_is = subst (λ (x : ℕ). HashIs rs ls used x join above) at H;
-            is = ap (λ (x : Best). kept_under hs ns xs x counts bound above (first_at lists join) (count_at lists join)) (sym e);
+            is = ap (λ (x : Option Candidate). kept_under hs ns xs x counts bound above (first_at lists join) (count_at lists join)) (sym e);
           };
           added = A;
         }
 
-    pub head_nobody : candidate_at tk sm fs b s counts ≡ Nobody → n ≤ places → HeadAdded tk sm fs rs ls b used counts bound lists hs ns xs s khs kns kxs n places khs kns kxs n
-    head_nobody e l = head_of Nobody e (added_none l)
+    pub head_nobody : candidate_at tk sm fs b s counts ≡ None → n ≤ places → HeadAdded tk sm fs rs ls b used counts bound lists hs ns xs s khs kns kxs n places khs kns kxs (Some n)
+    head_nobody e l = head_of None e (added_none l)
 
-    pub head_token : {c : Candidate} {khs' kns' : List ℕ} {kxs' : List Float} {r : ℕ} → candidate_at tk sm fs b s counts ≡ Token c → (f k : ℕ) → f ≡ first_at lists join → k ≡ count_at lists join
+    pub head_token : {c : Candidate} {khs' kns' : List ℕ} {kxs' : List Float} {r : Option ℕ} → candidate_at tk sm fs b s counts ≡ Some c → (f k : ℕ) → f ≡ first_at lists join → k ≡ count_at lists join
         → Added khs kns kxs n (within bound (kept_starts_from hs ns xs c counts above (f + 1) (k - 1))) places khs' kns' kxs' r → HeadAdded tk sm fs rs ls b used counts bound lists hs ns xs s khs kns kxs n places khs' kns' kxs' r
     head_token {c} {khs'} {kns'} {kxs'} {r} e f k u v A =
-        head_of (Token c) e
+        head_of (Some c) e
         (subst (λ (x : ℕ). Added khs kns kxs n (within bound (kept_starts_from hs ns xs c counts above (x + 1) (count_at lists join - 1))) places khs' kns' kxs' r) u
         (subst (λ (x : ℕ). Added khs kns kxs n (within bound (kept_starts_from hs ns xs c counts above (f + 1) (x - 1))) places khs' kns' kxs' r) v A))
 
@@ -158,27 +153,28 @@ module _ (tk : List ℕ) (sm fs : List Float) (rs : List ℕ) (ls : List ℤ) (b
     pub sized : Sized khs kns kxs khs' kns' kxs'
     pub ks : List KeptReading
     pub are : HeadsKept tk sm fs rs ls b used counts bound lists hs ns xs (take i heads) ks
-    pub added : Added khs kns kxs 0 ks places khs' kns' kxs' n
+    pub added : Added khs kns kxs 0 ks places khs' kns' kxs' (Some n)
 
   pub fill_none : FillTo 0 khs kns kxs 0
   fill_none = record { fits = omega arith; sized = sized_same; ks = []; are = subst (λ (ss : List ℕ). HeadsKept tk sm fs rs ls b used counts bound lists hs ns xs ss []) (sym (take_none heads)) no_heads; added = added_none (omega arith) }
 
   module _ {i : ℕ} {khs' kns' : List ℕ} {kxs' : List Float} {n : ℕ} (F : FillTo i khs' kns' kxs' n) (m : ℕ) where
-    pub fill_all : i ≡ m → FillIs tk sm fs rs ls b used counts bound heads m lists hs ns xs khs kns kxs places khs' kns' kxs' n
+    pub fill_all : i ≡ m → FillIs tk sm fs rs ls b used counts bound heads m lists hs ns xs khs kns kxs places khs' kns' kxs' (Some n)
     fill_all e = record { j = i; few = omega arith; all = λ l. e; ks = F.ks; are = F.are; added = F.added }
 
-    module _ (l : i < m) (long : m ≤ length heads) {khs'' kns'' : List ℕ} {kxs'' : List Float} {r : ℕ} (A : HeadAdded tk sm fs rs ls b used counts bound lists hs ns xs (slice_index heads i) khs' kns' kxs' n places khs'' kns'' kxs'' r) where
+    module _ (l : i < m) (long : m ≤ length heads) {khs'' kns'' : List ℕ} {kxs'' : List Float} {r : Option ℕ} (A : HeadAdded tk sm fs rs ls b used counts bound lists hs ns xs (slice_index heads i) khs' kns' kxs' n places khs'' kns'' kxs'' r) where
       more_heads : HeadsKept tk sm fs rs ls b used counts bound lists hs ns xs (take (i + 1) heads) (F.ks ++ A.ks)
       more_heads = subst (λ (ss : List ℕ). HeadsKept tk sm fs rs ls b used counts bound lists hs ns xs ss (F.ks ++ A.ks)) (sym (take_next heads i (omega arith))) (heads_last F.are A.are)
 
       more_added : Added khs kns kxs 0 (F.ks ++ A.ks) places khs'' kns'' kxs'' r
-      more_added = added_then A.ks F.fits F.added A.added
+      more_added = added_then A.ks F.added A.added
 
-      pub fill_next : Sized khs' kns' kxs' khs'' kns'' kxs'' → r ≤ places → FillTo (i + 1) khs'' kns'' kxs'' r
-      fill_next s f = record { fits = f; sized = sized_then F.sized s; ks = F.ks ++ A.ks; are = more_heads; added = more_added }
+    module _ (l : i < m) (long : m ≤ length heads) {khs'' kns'' : List ℕ} {kxs'' : List Float} where
+      pub fill_next : {r : ℕ} → HeadAdded tk sm fs rs ls b used counts bound lists hs ns xs (slice_index heads i) khs' kns' kxs' n places khs'' kns'' kxs'' (Some r) → Sized khs' kns' kxs' khs'' kns'' kxs'' → FillTo (i + 1) khs'' kns'' kxs'' r
+      fill_next A s = record { fits = added_fits A.added; sized = sized_then F.sized s; ks = F.ks ++ A.ks; are = more_heads l long A; added = more_added l long A }
 
-      pub fill_short : places < r → FillIs tk sm fs rs ls b used counts bound heads m lists hs ns xs khs kns kxs places khs'' kns'' kxs'' r
-      fill_short f = record { j = i + 1; few = omega arith; all = λ w. absurd (omega arith); ks = F.ks ++ A.ks; are = more_heads; added = more_added }
+      pub fill_short : HeadAdded tk sm fs rs ls b used counts bound lists hs ns xs (slice_index heads i) khs' kns' kxs' n places khs'' kns'' kxs'' None → FillIs tk sm fs rs ls b used counts bound heads m lists hs ns xs khs kns kxs places khs'' kns'' kxs'' None
+      fill_short A = record { j = i + 1; few = omega arith; all = λ w. never w; ks = F.ks ++ A.ks; are = more_heads l long A; added = more_added l long A }
 
 -- ---- which tokens are heads
 

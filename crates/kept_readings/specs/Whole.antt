@@ -1,5 +1,5 @@
 -- The map that is filled stands for the definition's. Assumes nothing.
-use Rattle.std.specs.Prelude.{◌≡◌, ℕ, zero, suc, ◌+◌, ◌-◌, ◌<◌, ◌≤◌, Bool, true, false, ◌&&◌, ◌||◌, ◌⊎◌, List, [], ◌∷◌, ◌++◌, map, length, take, ℤ, ◌==◌, nat_lt, refl, Float}
+use Rattle.std.specs.Prelude.{◌≡◌, ℕ, zero, suc, ◌+◌, ◌-◌, ◌<◌, ◌≤◌, Bool, true, false, ◌&&◌, ◌||◌, ◌⊎◌, List, [], ◌∷◌, ◌++◌, map, length, take, ℤ, ◌==◌, nat_lt, refl, Float, Option, Some, None, is_some}
 use Rattle.std.proofs.Common.{sym, ap, ap₂, ◌∙◌, subst, inl, inr, arith, eq-eqb, eqb-true}
 use mathlib.Core.List.Memᴰ.{head as here}
 use mathlib.Core.List.Memᴰ.{tail as there}
@@ -19,7 +19,7 @@ use Rattle.records.specs.History.{History}
 use Rattle.records.specs.Layout.{store}
 use Rattle.records.specs.Stands.{Stands}
 use Rattle.stores.specs.Shown.{Shown}
-use Rattle.traceback.specs.declared.Best.{Best}
+use Rattle.traceback.specs.declared.Candidate.{Candidate}
 use Rattle.traceback.specs.Ranks.{candidate_at}
 use Rattle.ranking.specs.Ranked.{ranked_at}
 use Rattle.groups.specs.Firsts.{link_at}
@@ -123,7 +123,7 @@ module _ {rs : List ℕ} {ls : List ℤ} {used : ℕ} (gs : List Float) (h : ℕ
   under_seq s H above first count k m =
       let S = stood w g q long counts s H in
       let c = S.candidate in
-      let i : k ∈ within bound (kept_starts_from hs ns xs c counts above (first + 1) (count - 1)) = subst (λ (x : Best). k ∈ kept_under hs ns xs x counts bound above first count) S.is m in
+      let i : k ∈ within bound (kept_starts_from hs ns xs c counts above (first + 1) (count - 1)) = subst (λ (x : Option Candidate). k ∈ kept_under hs ns xs x counts bound above first count) S.is m in
       let (z, j, u) = map_from (λ (z : ℕ). kept_by c counts above z (entry_at hs ns xs z)) (range (first + 1) (count - 1)) k (keep_from (ranks_below bound) (kept_starts_from hs ns xs c counts above (first + 1) (count - 1)) k i) in
       subst SeqIs (sym u) (S.seq ∙ ap (λ (t : ℕ). (rank_of t).token.seq) (sym S.head.state))
 
@@ -145,7 +145,7 @@ module _ {rs : List ℕ} {ls : List ℤ} {used : ℕ} (gs : List Float) (h : ℕ
       ap (λ (l : List Ranked). candidates counts margin bound cap l) (map_both rank_of ss us) ∙ ap (keep_if (kept_within bound)) (below_both counts margin cap (map rank_of ss) (map rank_of us))
       ∙ keep_both (kept_within bound) (kept_below counts margin cap (map rank_of ss)) (kept_below counts margin cap (map rank_of us))
 
-  module _ {heads : List ℕ} {m : ℕ} {khs kns : List ℕ} {kxs : List Float} {places : ℕ} {khs' kns' : List ℕ} {kxs' : List Float} {r : ℕ}
+  module _ {heads : List ℕ} {m : ℕ} {khs kns : List ℕ} {kxs : List Float} {places : ℕ} {khs' kns' : List ℕ} {kxs' : List Float} {r : Option ℕ}
       (F : FillIs tk sm fs rs ls b used counts bound heads m lists hs ns xs khs kns kxs places khs' kns' kxs' r)
       (d : (s : ℕ) → s ∈ take m heads → Head g tk b n counts ts s × (link_at tk b s ∈ links)) (O : Orderly (wanted (take m heads))) where
     parts : (ys : List ℕ) × (take m heads ≡ take F.j heads ++ ys)
@@ -169,18 +169,17 @@ module _ {rs : List ℕ} {ls : List ℤ} {used : ℕ} (gs : List Float) (h : ℕ
     perm = map_perm counts margin bound cap (map rank_of (take m heads)) O
 
     -- what the places hold is the definition's map, in some order
-    pub map_held : r ≤ places → Perm (map stand (kept_list khs' kns' kxs' r)) (kept_map counts margin bound cap (map rank_of (take m heads)))
-    map_held l = go F.added
+    pub map_held : {k : ℕ} → r ≡ Some k → Perm (map stand (kept_list khs' kns' kxs' k)) (kept_map counts margin bound cap (map rank_of (take m heads)))
+    map_held {k} l = go (subst (λ (x : Option ℕ). Added khs kns kxs 0 F.ks places khs' kns' kxs' x) l F.added)
       where
-        go : Added khs kns kxs 0 F.ks places khs' kns' kxs' r → Perm (map stand (kept_list khs' kns' kxs' r)) (kept_map counts margin bound cap (map rank_of (take m heads)))
-        go (are_more e u) = absurd (omega arith)
-        go (are_added u e) =
+        go : Added khs kns kxs 0 F.ks places khs' kns' kxs' (Some k) → Perm (map stand (kept_list khs' kns' kxs' k)) (kept_map counts margin bound cap (map rank_of (take m heads)))
+        go (are_added j u e) =
             subst (λ (ks : List Kept). Perm ks (kept_map counts margin bound cap (map rank_of (take m heads))))
-            (sym (ap (map stand) e ∙ images ∙ ap (λ (i : ℕ). all_from same_words_kept sooner_of_kept [] (wanted (take i heads))) (F.all l))) perm
+            (sym (ap (map stand) e ∙ images ∙ ap (λ (i : ℕ). all_from same_words_kept sooner_of_kept [] (wanted (take i heads))) (F.all (ap is_some l)))) perm
 
     -- where there are too few places, the definition's map has more than these
-    pub map_more : places < r → places < length (kept_map counts margin bound cap (map rank_of (take m heads)))
-    map_more l = go F.added
+    pub map_more : r ≡ None → places < length (kept_map counts margin bound cap (map rank_of (take m heads)))
+    map_more l = go (subst (λ (x : Option ℕ). Added khs kns kxs 0 F.ks places khs' kns' kxs' x) l F.added)
       where
         longer : length (all_from same_words_kept sooner_of_kept [] (wanted (take F.j heads))) ≤ length (all_from same_words_kept sooner_of_kept [] (wanted (take m heads)))
         longer =
@@ -188,9 +187,8 @@ module _ {rs : List ℕ} {ls : List ℤ} {used : ℕ} (gs : List Float) (h : ℕ
             (sym (ap (λ (ss : List ℕ). all_from same_words_kept sooner_of_kept [] (wanted ss)) parts.1 ∙ ap (all_from same_words_kept sooner_of_kept []) (wanted_both (take F.j heads) parts.0) ∙ all_then same_words_kept sooner_of_kept [] (wanted (take F.j heads)) (wanted parts.0)))
             (all-length same_words_kept sooner_of_kept (all_from same_words_kept sooner_of_kept [] (wanted (take F.j heads))) (wanted parts.0))
 
-        go : Added khs kns kxs 0 F.ks places khs' kns' kxs' r → places < length (kept_map counts margin bound cap (map rank_of (take m heads)))
-        go (are_added u e) = absurd (omega arith)
-        go (are_more e u) =
+        go : Added khs kns kxs 0 F.ks places khs' kns' kxs' None → places < length (kept_map counts margin bound cap (map rank_of (take m heads)))
+        go (are_more u) =
             let x : length (all_of F.ks) ≡ length (all_from same_words_kept sooner_of_kept [] (wanted (take F.j heads))) = sym (length_map stand (all_of F.ks)) ∙ ap length images in
             let y = perm-length perm in
             let z = longer in

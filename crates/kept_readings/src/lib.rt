@@ -12,7 +12,7 @@ ghost use Rattle.kept_readings.specs.Heads.{kept_by, kept_starts_from, EntriesAs
 
 use entries::Entry;
 use histories::Hashed;
-use traceback::{Best, Candidate};
+use traceback::Candidate;
 use wrapping::wrapping_mul;
 
 #[derive(Clone, Copy)]
@@ -63,29 +63,23 @@ fn same_kept(a: KeptReading, b: KeptReading) -> bool
     a.len == b.len
 }
 
-fn kept_sooner(a: KeptReading, b: KeptReading) -> bool
+pub fn kept_sooner(a: KeptReading, b: KeptReading) -> bool
     ensures { result ≡ sooner_kept a b }
 {
-    if a.rank < b.rank {
-        return true;
-    }
-    if a.rank == b.rank {
-        return b.seq < a.seq;
-    }
-    false
+    traceback::comes_first((a.rank, a.seq), (b.rank, b.seq))
 }
 
-// The first place of k's words, n for none.
-fn find_kept(hashes: &[u64], links: &[u32], sums: &[f32], n: usize, k: KeptReading) -> usize
+// The first place of k's words.
+fn find_kept(hashes: &[u64], links: &[u32], sums: &[f32], n: usize, k: KeptReading) -> Option<usize>
     requires { Room hashes.now links.now sums.now n }
     ensures { FoundAt hashes.now links.now sums.now n k result }
 {
     for i in 0..n {
         if same_kept(k, kept_at(hashes, links, sums, i)) {
-            return i;
+            return Some(i);
         }
     }
-    n
+    None
 }
 
 // Puts k where it comes sooner than the one that is there.
@@ -98,7 +92,7 @@ fn put_sooner(hashes: &mut [u64], links: &mut [u32], sums: &mut [f32], i: usize,
     }
 }
 
-// Adds k to the map of n: how many there are then, or one more than the places where a new one finds them full.
+// Adds k to the map of n: how many there are then; none where a new one finds the places full.
 fn add_kept(
     hashes: &mut [u64],
     links: &mut [u32],
@@ -106,20 +100,19 @@ fn add_kept(
     n: usize,
     places: usize,
     k: KeptReading,
-) -> usize
+) -> Option<usize>
     requires { (Room hashes.old links.old sums.old places) × (n ≤ places) }
     ensures { Added hashes.old links.old sums.old n (k ∷ []) places hashes.new links.new sums.new result }
 {
-    let i = find_kept(hashes, links, sums, n, k);
-    if i < n {
+    if let Some(i) = find_kept(hashes, links, sums, n, k) {
         put_sooner(hashes, links, sums, i, k);
-        return n;
+        return Some(n);
     }
     if n == places {
-        return n + 1;
+        return None;
     }
     put_kept(hashes, links, sums, n, k);
-    n + 1
+    Some(n + 1)
 }
 
 // The same where it ranks below the bound; any other is left out.
@@ -131,12 +124,12 @@ fn add_within(
     places: usize,
     bound: f32,
     k: KeptReading,
-) -> usize
+) -> Option<usize>
     requires { (Room hashes.old links.old sums.old places) × (n ≤ places) }
     ensures { Added hashes.old links.old sums.old n (within bound (k ∷ [])) places hashes.new links.new sums.new result }
 {
     if bound <= k.rank {
-        return n;
+        return Some(n);
     }
     add_kept(hashes, links, sums, n, places, k)
 }
@@ -184,7 +177,7 @@ fn add_entry(
     kept_sums: &mut [f32],
     n: usize,
     places: usize,
-) -> usize
+) -> Option<usize>
     requires { (EntryRoom hashes.now nexts.now costs.now e) × ((entry_at hashes.now nexts.now costs.now e).len + above.len < 2 ^ 32) × (Room kept_hashes.old kept_links.old kept_sums.old places) × (n ≤ places) }
     ensures { Added kept_hashes.old kept_links.old kept_sums.old n (within bound (kept_by c counts above e (entry_at hashes.now nexts.now costs.now e) ∷ [])) places kept_hashes.new kept_links.new kept_sums.new result }
 {
@@ -209,13 +202,12 @@ fn add_below(
     kept_sums: &mut [f32],
     n: usize,
     places: usize,
-) -> usize
+) -> Option<usize>
     requires { (EntriesAsk hashes.now nexts.now costs.now first count above.len) × (Room kept_hashes.old kept_links.old kept_sums.old places) × (n ≤ places) }
     ensures { Added kept_hashes.old kept_links.old kept_sums.old n (within bound (kept_starts_from hashes.now nexts.now costs.now c counts above (first + 1) (count - 1))) places kept_hashes.new kept_links.new kept_sums.new result }
 {
     let mut m = n;
-    let mut i: u32 = 1;
-    while i < count {
+    for i in 1..count {
         m = add_entry(
             c,
             counts,
@@ -230,13 +222,9 @@ fn add_below(
             kept_sums,
             m,
             places,
-        );
-        if places < m {
-            return m;
-        }
-        i += 1;
+        )?;
     }
-    m
+    Some(m)
 }
 
 // The readings below one head.
@@ -260,7 +248,7 @@ fn add_head(
     kept_sums: &mut [f32],
     n: usize,
     places: usize,
-) -> usize
+) -> Option<usize>
     requires { (side ≤ 1) × (Chains records.now labels.now used) × (used * 2 ≤ length lists.now) × (HeadAsks tokens.now sums.now finals.now records.now labels.now side used lists.now hashes.now nexts.now costs.now s) × (Room kept_hashes.old kept_links.old kept_sums.old places) × (n ≤ places) }
     ensures { HeadAdded tokens.now sums.now finals.now records.now labels.now side used counts bound lists.now hashes.now nexts.now costs.now s kept_hashes.old kept_links.old kept_sums.old n places kept_hashes.new kept_links.new kept_sums.new result }
 {
@@ -268,8 +256,8 @@ fn add_head(
     let join = histories::first_join(records, labels, used, link);
     let above = histories::hash_above(records, labels, used, link, join);
     match traceback::candidate_at(tokens, sums, finals, side, s, counts) {
-        Best::Nobody => n,
-        Best::Token(c) => add_below(
+        None => Some(n),
+        Some(c) => add_below(
             c,
             counts,
             bound,
@@ -288,7 +276,7 @@ fn add_head(
     }
 }
 
-// The Rust's `kept` map of all heads: how many readings there are, or one more than the places where they do not hold it.
+// The Rust's `kept` map of all heads: how many readings there are; none where the places do not hold it.
 pub fn fill_kept(
     tokens: &[u32],
     sums: &[f32],
@@ -309,7 +297,7 @@ pub fn fill_kept(
     kept_links: &mut [u32],
     kept_sums: &mut [f32],
     places: usize,
-) -> usize
+) -> Option<usize>
     requires { FillAsks tokens.now sums.now finals.now records.now labels.now side used heads.now m lists.now hashes.now nexts.now costs.now kept_hashes.old kept_links.old kept_sums.old places }
     ensures { FillIs tokens.now sums.now finals.now records.now labels.now side used counts bound heads.now m lists.now hashes.now nexts.now costs.now kept_hashes.old kept_links.old kept_sums.old places kept_hashes.new kept_links.new kept_sums.new result }
 {
@@ -335,22 +323,19 @@ pub fn fill_kept(
             kept_sums,
             n,
             places,
-        );
-        if places < n {
-            return n;
-        }
+        )?;
     }
-    n
+    Some(n)
 }
 
 // ---- which tokens are heads
 
-fn best_within(bound: f32, best: Best) -> bool
+fn best_within(bound: f32, best: Option<Candidate>) -> bool
     ensures { result ≡ best_within bound best }
 {
     match best {
-        Best::Nobody => false,
-        Best::Token(c) => !(bound <= c.rank),
+        None => false,
+        Some(c) => !(bound <= c.rank),
     }
 }
 

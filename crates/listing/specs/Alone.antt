@@ -1,5 +1,5 @@
 -- Where no kept readings are listed, the own groups are the list. Assumes nothing.
-use Rattle.std.specs.Prelude.{◌≡◌, refl, ℕ, zero, suc, ◌-◌, ◌≤◌, ◌<◌, Bool, true, false, ◌&&◌, ◌||◌, cond, List, [], map, ℤ, ltb, length, get_or, take, Float}
+use Rattle.std.specs.Prelude.{◌≡◌, refl, ℕ, zero, suc, ◌≤◌, ◌<◌, Bool, true, false, ◌&&◌, ◌||◌, cond, List, [], map, ℤ, ltb, length, get_or, take, Float, Ok}
 use Rattle.std.proofs.Common.{sym, ap, ap₂, ◌∙◌, subst, arith, ltb-false, le-ltb}
 use Rattle.std.proofs.Math.Option.{Option, none, some}
 use Rattle.lists.specs.Lists.{◌∈◌}
@@ -14,7 +14,6 @@ use Rattle.listing_laws.specs.Alike.{at_front}
 use Rattle.listing_laws.specs.Owns.{group_in, own_held, grouped_are}
 use Rattle.listing_laws.specs.Whole.{item_group, item_own}
 use Rattle.listing.specs.declared.Ranked.{Ranked}
-use Rattle.listing.specs.declared.Listing.TheVariants.{Items}
 use Rattle.listing.specs.Listed.{Copied, OwnListed, ItemHeld, overfull, ListIs, ListingIs, are_items}
 use Rattle.listing.specs.Owning.{few_own, own_item}
 
@@ -59,7 +58,7 @@ module _ {tk : List ℕ} {sm fs : List Float} {rs : List ℕ} {ls : List ℤ} {g
 -- what the list's contract says, where its items are the own groups
 pub own_alone : {tk : List ℕ} {sm fs : List Float} {rs : List ℕ} {ls : List ℤ} {n b used : ℕ} → n ≤ 65_535 → {counts : Bool} {heads own : List ℕ} {o : Ranked} → OwnListed tk sm fs rs ls b n used counts heads own o → {list : List ℕ} → Copied own list o.own → n ≤ length list
     → (gs : List Float) (keeps : Bool) (margin : Float) (listed : ℕ) → (keeps && ltb 0 listed) ≡ false → (entries kept : ℕ) (hs ns : List ℕ) (xs : List Float) (khs kns : List ℕ) (kxs : List Float)
-    → ListingIs tk sm fs rs ls gs n b used keeps margin counts listed entries kept hs ns xs khs kns kxs list (Items o.own)
+    → ListingIs tk sm fs rs ls gs n b used keeps margin counts listed entries kept hs ns xs khs kns kxs list (Ok o.own)
 own_alone few {o = o} O copied long gs keeps margin listed alone entries kept hs ns xs khs kns kxs =
     let f = few_own O in
     are_items o.own (omega arith) (omega arith) (λ S use_final c. (fits S few O listed alone copied long use_final c khs kns kxs entries kept, are_own S few O listed alone copied long use_final c khs kns kxs hs ns xs))

@@ -1,7 +1,7 @@
 -- The definition's list by the bound that was computed: its readings, and how many entries and kept readings it counts for 15. Assumes nothing.
-use Rattle.std.specs.Prelude.{◌≡◌, Bool, true, false, ◌||◌, cond, ℤ, ltb, get_or, take, Float}
+use Rattle.std.specs.Prelude.{◌≡◌, refl, Bool, true, false, ◌||◌, cond, ℤ, ltb, get_or, take, Float, Option as RustOption, Some, None, Err}
 use Rattle.std.proofs.Common.{sym, ◌∙◌, arith, add-one, lt-ltb, le-ltb}
-use Rattle.std.proofs.Math.Path.{ap, ap₂}
+use Rattle.std.proofs.Math.Path.{ap, ap₂, subst}
 use Prim.Native.Nat.{ℕ, zero, suc, ◌+◌, ◌-◌, ◌≤◌, ◌<◌}
 use Rattle.std.proofs.Math.Bool.{or-true}
 use Rattle.std.proofs.Math.Option.{Option, none, some}
@@ -19,8 +19,8 @@ use Rattle.model.specs.Reads.{Ranked as RankedToken, ranked, grouped, use_finals
 use Rattle.model.specs.Readings.{Kept, Readings, heads as all_heads, rank_at, merged, visited_all, plain, expanded, readings}
 use Rattle.below.specs.Filling.{entries_below, Outcome, was_full, BelowIs}
 use Rattle.below.specs.Marks.{head_links}
-use Rattle.kept_readings.specs.Kept.{kept_list}
-use Rattle.kept_readings.specs.Laws.{list_length}
+use Rattle.kept_readings.specs.Kept.{kept_list, Added}
+use Rattle.kept_readings.specs.Laws.{list_length, added_fits}
 use Rattle.kept_readings.specs.Meaning.{as_kept}
 use Rattle.merged.specs.Items.{own_rank}
 use Rattle.listing_laws.specs.Situation.{Situation}
@@ -29,10 +29,10 @@ use Rattle.listing_laws.specs.Heads.{bound_at, bound_past}
 use Rattle.listing_laws.specs.Belows.{belows_are}
 use Rattle.listing_laws.specs.Known.{kept_read_in, kept_groups}
 use Rattle.listing.specs.declared.Ranked.{Ranked}
-use Rattle.listing.specs.declared.KeptFound.TheVariants.{Full as NoPlace}
 use Rattle.listing.specs.Listed.{bound_of, OwnListed, HeadsListed, Found, FoundIs, entries_full, map_full, overfull}
 use Rattle.listing.specs.Finding.{head_held}
 use Rattle.listing.specs.Keeping.{heads_are, put, belows, map_over, map_is}
+use Rattle.refusals.specs.declared.Reason.{Reason}
 
 -- with a margin, and some to be listed
 readings_expanded : (g : Graph) (st : State) (f : Bool) (listed : ℕ) (margin : Float) → 0 < listed → st.margin ≡ some margin → readings g st f listed ≡ expanded g st f listed margin
@@ -85,23 +85,27 @@ module _ {tk : List ℕ} {sm fs : List Float} {rs : List ℕ} {ls : List ℤ} {g
     counted entries kept = ap (λ (x : Readings). over x.belows (some entries) || over x.kepts (some kept)) readings_are ∙ ap₂ (λ (x y : ℕ). ltb entries x || ltb kept y) belows_is kepts_is
 
     -- more entries than places
-    below_full : {lists hs ns : List ℕ} {xs : List Float} {entries : ℕ} → BelowIs rs ls gs used margin (listed + 1) links lists hs ns xs entries 0 → (kept : ℕ) → overfull S use_final listed entries kept ≡ true
+    below_full : {lists hs ns : List ℕ} {xs : List Float} {entries : ℕ} → BelowIs rs ls gs used margin (listed + 1) links lists hs ns xs entries None → (kept : ℕ) → overfull S use_final listed entries kept ≡ true
     below_full {lists} {hs} {ns} {xs} {entries} B kept = counted entries kept ∙ ap (λ (t : Bool). t || ltb kept (length kept_all)) (lt-ltb entries (entries_below margin (listed + 1) (map S.h links)) (go (B.is S.h S.stands)))
       where
-        go : Outcome S.h used margin (listed + 1) links lists hs ns xs entries 0 → entries < entries_below margin (listed + 1) (map S.h links)
+        go : Outcome S.h used margin (listed + 1) links lists hs ns xs entries None → entries < entries_below margin (listed + 1) (map S.h links)
         go (was_full u) = u
 
-  module _ {hs ns : List ℕ} {xs : List Float} {entries : ℕ} {khs kns : List ℕ} {kxs : List Float} {most r : ℕ} (F : Found tk sm fs rs ls gs b used margin counts listed bound heads o.all hs ns xs entries khs kns kxs most r) where
+  module _ {hs ns : List ℕ} {xs : List Float} {entries : ℕ} {khs kns : List ℕ} {kxs : List Float} {most : ℕ} {found : RustOption ℕ} (F : Found tk sm fs rs ls gs b used margin counts listed bound heads o.all hs ns xs entries khs kns kxs most found) where
     abbrev entries_all : ℕ
     entries_all = entries_below margin (listed + 1) (map S.h (links F.are))
 
     -- more kept readings than places
-    map_full_lem : most < r → overfull S use_final listed entries most ≡ true
+    map_full_lem : found ≡ None → overfull S use_final listed entries most ≡ true
     map_full_lem l = counted F.are entries most ∙ ap (λ (t : Bool). ltb entries entries_all || t) (lt-ltb most (length kept_all) (map_over S F few_records O.ranked use_final c l)) ∙ or-true (ltb entries entries_all)
 
     -- all have their places
-    pub found_fits : r ≤ most → overfull S use_final listed entries most ≡ false
-    found_fits l =
+    fits : {r : ℕ} → found ≡ Some r → r ≤ most
+    fits l = added_fits (subst (λ (x : RustOption ℕ). Added F.hashes F.links F.ksums 0 F.fill.ks most khs kns kxs x) l F.fill.added)
+
+    pub found_fits : {r : ℕ} → found ≡ Some r → overfull S use_final listed entries most ≡ false
+    found_fits {r} l =
+        let few = fits l in
         let w = put S F in
         let x = w.is in
         let y = w.few in
@@ -110,6 +114,6 @@ module _ {tk : List ℕ} {sm fs : List Float} {rs : List ℕ} {ls : List ℤ} {g
         counted F.are entries most ∙ ap₂ (λ (s t : Bool). s || t) (le-ltb entries entries_all (omega arith)) (le-ltb most (length kept_all) (omega arith))
 
   -- whichever of the two is full
-  pub found_full : {hs ns : List ℕ} {xs : List Float} {entries : ℕ} {khs kns : List ℕ} {kxs : List Float} {most : ℕ} → FoundIs tk sm fs rs ls gs b used margin counts listed bound heads o.all hs ns xs entries khs kns kxs most NoPlace → overfull S use_final listed entries most ≡ true
+  pub found_full : {hs ns : List ℕ} {xs : List Float} {entries : ℕ} {khs kns : List ℕ} {kxs : List Float} {most : ℕ} {e : Reason} → FoundIs tk sm fs rs ls gs b used margin counts listed bound heads o.all hs ns xs entries khs kns kxs most (Err e) → overfull S use_final listed entries most ≡ true
   found_full {most = most} (entries_full heads' m H lists B) = below_full H B most
-  found_full (map_full r F l) = map_full_lem F l
+  found_full (map_full F) = map_full_lem F refl

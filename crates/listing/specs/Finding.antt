@@ -1,6 +1,6 @@
 -- What the heads among ranked states are asked for, and what the stores answer. Assumes nothing.
-use Rattle.std.specs.Prelude.{◌≡◌, ℕ, ◌+◌, ◌-◌, ◌*◌, ◌≤◌, ◌<◌, Bool, true, List, ℤ, length, get_or, take, Float}
-use Rattle.std.proofs.Common.{subst, arith, ne_eqb}
+use Rattle.std.specs.Prelude.{◌≡◌, ℕ, ◌+◌, ◌*◌, ◌≤◌, ◌<◌, Bool, true, List, ℤ, length, get_or, take, Float, Option, Some, None, Result, Err, ok_or}
+use Rattle.std.proofs.Common.{sym, ap, ◌∙◌, subst, arith, ne_eqb}
 use Rattle.lists.specs.Lists.{◌∈◌}
 use Rattle.lists.specs.Members.{keep_from, map_from}
 use Rattle.records.specs.History.{History}
@@ -11,7 +11,7 @@ use Rattle.ranking.specs.Ranked.{RankAsks, RankedIs}
 use Rattle.groups.specs.Firsts.{link_at, dropped, StateAsks as GroupAsks, StatesAsk, FirstsIs}
 use Rattle.entries.specs.Entries.{Room as EntryRoom}
 use Rattle.below.specs.Marks.{link_of, head_links, HeadsAsk as BelowHeadsAsk}
-use Rattle.below.specs.Filling.{BelowAsks, BelowIs, Outcome, was_full, was_filled}
+use Rattle.below.specs.Filling.{BelowAsks, BelowIs, Outcome, was_filled}
 use Rattle.kept_readings.specs.Kept.{Room}
 use Rattle.kept_readings.specs.Heads.{is_head, StateAsks, HeadsAsk, FillAsks, FillIs}
 use Rattle.kept_readings.specs.Asks.{below_asks}
@@ -20,8 +20,9 @@ use Rattle.listing_laws.specs.Situation.{Situation, Held}
 use Rattle.listing_laws.specs.Alike.{at_front}
 use Rattle.listing_laws.specs.Owns.{firsts_among, link_in}
 use Rattle.listing_laws.specs.Knows.{low}
-use Rattle.listing.specs.declared.KeptFound.TheVariants.{Full as NoPlace, Found as FoundOf}
 use Rattle.listing.specs.Listed.{StoresAsk, HeadsListed, Found, FoundIs, entries_full, map_full, are_found}
+use Rattle.refusals.specs.declared.Reason.{Reason}
+use Rattle.refusals.specs.declared.Reason.TheVariants.{ListsFull}
 
 -- states to begin from, whose tokens have records of a store that stands for some histories
 pub record HeadsListAsks (tk : List ℕ) (sm fs : List Float) (rs : List ℕ) (ls : List ℤ) (b used : ℕ) (heads : List ℕ) (n keys places : ℕ) : Type 0 where
@@ -155,9 +156,9 @@ module _ {tk : List ℕ} {sm fs : List Float} {rs : List ℕ} {ls : List ℤ} {g
 
       -- for the map of what they keep
       pub fill_asks : n ≤ length heads' → {lists hs ns : List ℕ} {xs : List Float} {cap entries free : ℕ} → used * 2 ≤ length lists → EntryRoom hs ns xs entries → entries ≤ 0x7fff_fff0
-          → BelowIs rs ls gs used margin cap (head_links tk b heads' m) lists hs ns xs entries free → (free ≡ 0 → ⊥) → {khs kns : List ℕ} {kxs : List Float} {most : ℕ} → Room khs kns kxs most
+          → BelowIs rs ls gs used margin cap (head_links tk b heads' m) lists hs ns xs entries (Some free) → {khs kns : List ℕ} {kxs : List Float} {most : ℕ} → Room khs kns kxs most
           → FillAsks tk sm fs rs ls b used heads' m lists hs ns xs khs kns kxs most
-      fill_asks l {lists} {hs} {ns} {xs} {cap} {entries} {free} j E few B d K =
+      fill_asks l {lists} {hs} {ns} {xs} {cap} {entries} {free} j E few B K =
           let f = heads_few in
           let S = A.situation in
           record {
@@ -173,12 +174,11 @@ module _ {tk : List ℕ} {sm fs : List Float} {rs : List ℕ} {ls : List ℤ} {g
                   sums = a.sums;
                   finals = a.finals;
                   low = a.low;
-                  below = below_asks gs S.h S.stands (B.short d) E (inside (B.is S.h S.stands)) (omega arith) (let z = A.few_records in omega arith) (link_at tk b (get_or heads' i 0)) a.low;
+                  below = below_asks gs S.h S.stands B.short E (inside (B.is S.h S.stands)) (omega arith) (let z = A.few_records in omega arith) (link_at tk b (get_or heads' i 0)) a.low;
                 };
           }
         where
-          inside : {free : ℕ} → Outcome A.situation.h used margin cap (head_links tk b heads' m) lists hs ns xs entries free → free ≤ entries + 1
-          inside (was_full u) = omega arith
+          inside : {free : ℕ} → Outcome A.situation.h used margin cap (head_links tk b heads' m) lists hs ns xs entries (Some free) → free ≤ entries + 1
           inside (was_filled k e u L) = omega arith
 
 module _ {tk : List ℕ} {sm fs : List Float} {rs : List ℕ} {ls : List ℤ} {gs : List Float} {n b used : ℕ} {margin : Float} (A : StoresAsk tk sm fs rs ls gs n b used true margin) {counts : Bool} {heads : List ℕ} {all : ℕ} (R : RankedIs tk sm fs b n counts heads all)
@@ -201,33 +201,37 @@ module _ {tk : List ℕ} {sm fs : List Float} {rs : List ℕ} {ls : List ℤ} {g
 
 -- ---- what is found
 
-module _ {tk : List ℕ} {sm fs : List Float} {rs : List ℕ} {ls : List ℤ} {gs : List Float} {b used : ℕ} {margin : Float} {counts : Bool} {listed : ℕ} {bound : Float} {heads heads' : List ℕ} {all m : ℕ} (H : HeadsListed tk sm fs rs ls b used counts bound heads heads' all m)
-    {lists hs ns : List ℕ} {xs : List Float} {places entries free : ℕ} (B : BelowIs rs ls gs used margin (listed + 1) (head_links tk b heads' m) lists hs ns xs places free) (e : places ≡ entries) where
-  -- the entries did not fit
-  pub none_found : free ≡ 0 → {khs kns : List ℕ} {kxs : List Float} {most : ℕ} → FoundIs tk sm fs rs ls gs b used margin counts listed bound heads all hs ns xs entries khs kns kxs most NoPlace
-  none_found z = entries_full heads' m H lists (subst (λ (p : ℕ). BelowIs rs ls gs used margin (listed + 1) (head_links tk b heads' m) lists hs ns xs p 0) e (subst (λ (f : ℕ). BelowIs rs ls gs used margin (listed + 1) (head_links tk b heads' m) lists hs ns xs places f) z B))
+-- the lists below the heads, by how many entries they take
+pub below_as : {rs : List ℕ} {ls : List ℤ} {gs : List Float} {used : ℕ} {margin : Float} {cap : ℕ} {links lists hs ns : List ℕ} {xs : List Float} {places : ℕ} {r f : Option ℕ} → BelowIs rs ls gs used margin cap links lists hs ns xs places r → r ≡ f
+    → BelowIs rs ls gs used margin cap links lists hs ns xs places f
+below_as {rs} {ls} {gs} {used} {margin} {cap} {links} {lists} {hs} {ns} {xs} {places} B e = subst (λ (x : Option ℕ). BelowIs rs ls gs used margin cap links lists hs ns xs places x) e B
 
-  module _ (d : free ≡ 0 → ⊥) {khs₀ kns₀ : List ℕ} {kxs₀ : List Float} {khs kns : List ℕ} {kxs : List Float} {most r : ℕ} (F : FillIs tk sm fs rs ls b used counts bound heads' m lists hs ns xs khs₀ kns₀ kxs₀ most khs kns kxs r) where
-    found : Found tk sm fs rs ls gs b used margin counts listed bound heads all hs ns xs entries khs kns kxs most r
-    found =
+module _ {tk : List ℕ} {sm fs : List Float} {rs : List ℕ} {ls : List ℤ} {gs : List Float} {b used : ℕ} {margin : Float} {counts : Bool} {listed : ℕ} {bound : Float} {heads heads' : List ℕ} {all m : ℕ} (H : HeadsListed tk sm fs rs ls b used counts bound heads heads' all m)
+    {lists hs ns : List ℕ} {xs : List Float} {places entries : ℕ} (e : places ≡ entries) where
+  -- the entries did not fit
+  pub none_found : {r : Option ℕ} → BelowIs rs ls gs used margin (listed + 1) (head_links tk b heads' m) lists hs ns xs places r → r ≡ None → {x : Reason} → Err x ≡ ok_or r ListsFull → {khs kns : List ℕ} {kxs : List Float} {most : ℕ}
+      → FoundIs tk sm fs rs ls gs b used margin counts listed bound heads all hs ns xs entries khs kns kxs most (Err x)
+  none_found B z {x} q {khs} {kns} {kxs} {most} =
+      subst (λ (y : Result ℕ Reason). FoundIs tk sm fs rs ls gs b used margin counts listed bound heads all hs ns xs entries khs kns kxs most y) (sym (q ∙ ap (λ (y : Option ℕ). ok_or y ListsFull) z))
+      (entries_full heads' m H lists (subst (λ (p : ℕ). BelowIs rs ls gs used margin (listed + 1) (head_links tk b heads' m) lists hs ns xs p None) e (below_as B z)))
+
+  module _ {free : ℕ} (B : BelowIs rs ls gs used margin (listed + 1) (head_links tk b heads' m) lists hs ns xs places (Some free)) {khs₀ kns₀ : List ℕ} {kxs₀ : List Float} {khs kns : List ℕ} {kxs : List Float} {most : ℕ} where
+    found : {r : Option ℕ} → FillIs tk sm fs rs ls b used counts bound heads' m lists hs ns xs khs₀ kns₀ kxs₀ most khs kns kxs r → Found tk sm fs rs ls gs b used margin counts listed bound heads all hs ns xs entries khs kns kxs most r
+    found F =
         record {
           heads' = heads';
           m = m;
           are = H;
           lists = lists;
           free = free;
-          some_free = d;
-          below = subst (λ (p : ℕ). BelowIs rs ls gs used margin (listed + 1) (head_links tk b heads' m) lists hs ns xs p free) e B;
+          below = subst (λ (p : ℕ). BelowIs rs ls gs used margin (listed + 1) (head_links tk b heads' m) lists hs ns xs p (Some free)) e B;
           hashes = khs₀;
           links = kns₀;
           ksums = kxs₀;
           fill = F;
         }
 
-    -- the kept readings did not fit
-    pub many_found : most < r → FoundIs tk sm fs rs ls gs b used margin counts listed bound heads all hs ns xs entries khs kns kxs most NoPlace
-    many_found l = map_full r found l
-
-    -- all fitted
-    pub all_found : r ≤ most → FoundIs tk sm fs rs ls gs b used margin counts listed bound heads all hs ns xs entries khs kns kxs most (FoundOf r)
-    all_found l = are_found r found l
+    -- the kept readings, if they fitted
+    pub kept_found : (r : Option ℕ) → FillIs tk sm fs rs ls b used counts bound heads' m lists hs ns xs khs₀ kns₀ kxs₀ most khs kns kxs r → FoundIs tk sm fs rs ls gs b used margin counts listed bound heads all hs ns xs entries khs kns kxs most (ok_or r ListsFull)
+    kept_found None F = map_full (found F)
+    kept_found (Some r) F = are_found r (found F)

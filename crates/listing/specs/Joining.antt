@@ -1,5 +1,5 @@
 -- What the steps of putting both together ask, from what was found, and what they leave. Assumes nothing.
-use Rattle.std.specs.Prelude.{◌≡◌, ℕ, ◌+◌, ◌*◌, ◌≤◌, ◌<◌, Bool, true, false, List, [], ◌∷◌, ℤ, length, get_or, take, Float}
+use Rattle.std.specs.Prelude.{◌≡◌, refl, ℕ, ◌+◌, ◌*◌, ◌≤◌, ◌<◌, Bool, true, false, List, [], ◌∷◌, ℤ, length, get_or, take, Float}
 use Rattle.std.proofs.Common.{ap, ap₂, ◌∙◌, subst, arith}
 use mathlib.Core.List.Memᴰ.{head as here}
 use mathlib.Core.List.Memᴰ.{tail as there}
@@ -74,7 +74,7 @@ module _ {tk : List ℕ} {sm fs : List Float} {rs : List ℕ} {ls : List ℤ} {n
   nexts_long = belows_few S W.found W.nexts
 
   sound : (i : ℕ) → i < r → KeptSound tk rs ls b n used ns bs (kept_read_in khs kns kxs i)
-  sound = sound_at S W.found W.stores.few_records W.own_listed.ranked W.few
+  sound = sound_at S W.found W.stores.few_records W.own_listed.ranked refl
 
   joins_few : (i : ℕ) → i < r → length (joins_of ns (kept_read_in khs kns kxs i).entry) ≤ used
   joins_few i l =

@@ -1,5 +1,5 @@
 -- What was found, for a situation: the definition's heads, entries that stand for paths below them, and its kept readings. Assumes nothing.
-use Rattle.std.specs.Prelude.{◌≡◌, refl, ℕ, suc, ◌+◌, ◌*◌, ◌≤◌, ◌<◌, Bool, true, not, List, [], map, ℤ, T, length, take, Float}
+use Rattle.std.specs.Prelude.{◌≡◌, refl, ℕ, suc, ◌+◌, ◌*◌, ◌≤◌, ◌<◌, Bool, true, not, List, [], map, ℤ, T, length, take, Float, Option, Some, None}
 use Rattle.std.proofs.Common.{sym, ap, ◌∙◌, subst, arith}
 use Rattle.std.specs.Float.Ieee.{is_nan}
 use Rattle.lists.specs.Tests.{case}
@@ -20,7 +20,7 @@ use Rattle.groups.specs.Firsts.{link_at}
 use Rattle.ranking.specs.Ranked.{RankedIs}
 use Rattle.below.specs.Stored.{stands_for, Decoded}
 use Rattle.below.specs.Marks.{link_of, head_links}
-use Rattle.below.specs.Filling.{entries_below, Listed, Outcome, was_full, was_filled, BelowIs}
+use Rattle.below.specs.Filling.{entries_below, Listed, Outcome, was_filled, BelowIs}
 use Rattle.below.specs.Short.{Short}
 use Rattle.kept_readings.specs.declared.KeptReading.{KeptReading}
 use Rattle.kept_readings.specs.Kept.{kept_read_in as kept_place, kept_list}
@@ -50,12 +50,11 @@ pub record Filled (h : ℕ → History) (used : ℕ) (margin : Float) (cap : ℕ
   pub inside : ListsInside h used links lists k
 
 filled : {rs : List ℕ} {ls : List ℤ} {gs : List Float} {used : ℕ} {margin : Float} {cap : ℕ} {links lists hs ns : List ℕ} {xs : List Float} {entries free : ℕ} (h : ℕ → History) → Stands (store rs ls gs) used h
-    → BelowIs rs ls gs used margin cap links lists hs ns xs entries free → (free ≡ 0 → ⊥) → Filled h used margin cap links lists hs ns xs entries free
-filled {used = used} {margin} {cap} {links} {lists} {hs} {ns} {xs} {entries} h ok B d = go (B.is h ok) d (B.short d)
+    → BelowIs rs ls gs used margin cap links lists hs ns xs entries (Some free) → Filled h used margin cap links lists hs ns xs entries free
+filled {used = used} {margin} {cap} {links} {lists} {hs} {ns} {xs} {entries} h ok B = go (B.is h ok) B.short
   where
-    go : {free : ℕ} → Outcome h used margin cap links lists hs ns xs entries free → (free ≡ 0 → ⊥) → Short lists hs ns xs used free → Filled h used margin cap links lists hs ns xs entries free
-    go (was_full u) d s = absurd (d refl)
-    go (was_filled k e u L) d s = record { k = k; next = refl; is = e; few = u; listed = L; inside = λ l i j v q. let z = s.before j v in omega arith }
+    go : {free : ℕ} → Outcome h used margin cap links lists hs ns xs entries (Some free) → Short lists hs ns xs used free → Filled h used margin cap links lists hs ns xs entries free
+    go (was_filled k e u L) s = record { k = k; next = refl; is = e; few = u; listed = L; inside = λ l i j v q. let z = s.before j v in omega arith }
 
 -- a kept reading as it can be read: an active state, an entry that was put, a rank that is a number, hash and number of its words
 pub record KeptSound (tk rs : List ℕ) (ls : List ℤ) (b n used : ℕ) (ns : List ℕ) (bs : List Below) (k : KeptReading) : Type 0 where
@@ -90,7 +89,7 @@ module _ {tk : List ℕ} {sm fs : List Float} {rs : List ℕ} {ls : List ℤ} {g
 -- ---- what was found
 
 module _ {tk : List ℕ} {sm fs : List Float} {rs : List ℕ} {ls : List ℤ} {gs : List Float} {n b used : ℕ} {margin : Float} (S : Situation tk sm fs rs ls gs n b used true margin) {counts : Bool} {listed : ℕ} {bound : Float} {order : List ℕ} {all : ℕ}
-    {hs ns : List ℕ} {xs : List Float} {entries : ℕ} {khs kns : List ℕ} {kxs : List Float} {most r : ℕ} (F : Found tk sm fs rs ls gs b used margin counts listed bound order all hs ns xs entries khs kns kxs most r) where
+    {hs ns : List ℕ} {xs : List Float} {entries : ℕ} {khs kns : List ℕ} {kxs : List Float} {most : ℕ} {found : Option ℕ} (F : Found tk sm fs rs ls gs b used margin counts listed bound order all hs ns xs entries khs kns kxs most found) where
   abbrev cap : ℕ
   cap = listed + 1
 
@@ -100,7 +99,7 @@ module _ {tk : List ℕ} {sm fs : List Float} {rs : List ℕ} {ls : List ℤ} {g
 
   -- the entries
   pub put : Filled S.h used margin cap (head_links tk b F.heads' F.m) F.lists hs ns xs entries F.free
-  put = filled S.h S.stands F.below F.some_free
+  put = filled S.h S.stands F.below
 
   abbrev pub belows : List Below
   belows = put.listed.bs
@@ -114,7 +113,7 @@ module _ {tk : List ℕ} {sm fs : List Float} {rs : List ℕ} {ls : List ℤ} {g
   belows_few l = let a = put.few in let z = put.listed.many in omega arith
 
   short : Short F.lists hs ns xs used F.free
-  short = F.below.short F.some_free
+  short = F.below.short
 
   abbrev stand : KeptReading → Kept
   stand k = as_kept (rank_in S counts) belows k
@@ -135,22 +134,22 @@ module _ {tk : List ℕ} {sm fs : List Float} {rs : List ℕ} {ls : List ℤ} {g
       found_known = known S S.margin_is few_records f bound cap (omega arith)
 
       -- where there are more kept readings than places, the definition's map has more
-      pub map_over : most < r → most < length (kept_read_in S.g S.st f margin bound cap)
+      pub map_over : found ≡ None → most < length (kept_read_in S.g S.st f margin bound cap)
       map_over l =
           subst (λ (ks : List Kept). most < length ks) (map_of S f c R F.are cap) (map_more gs S.h S.stands put.listed put.inside S.shown S.g S.finals S.long counts bound F.fill tokens all_orderly l)
 
       -- else the places hold the definition's map
-      module _ (few : r ≤ most) where
+      module _ {r : ℕ} (all-found : found ≡ Some r) where
         -- in some order
         pub map_is : Perm (map stand (kept_list khs kns kxs r)) (kept_read_in S.g S.st f margin bound cap)
         map_is =
-            subst (Perm (map stand (kept_list khs kns kxs r))) (map_of S f c R F.are cap) (map_held gs S.h S.stands put.listed put.inside S.shown S.g S.finals S.long counts bound F.fill tokens all_orderly few)
+            subst (Perm (map stand (kept_list khs kns kxs r))) (map_of S f c R F.are cap) (map_held gs S.h S.stands put.listed put.inside S.shown S.g S.finals S.long counts bound F.fill tokens all_orderly all-found)
 
         in_map : (k : KeptReading) → k ∈ kept_list khs kns kxs r → stand k ∈ kept_read_in S.g S.st f margin bound cap
         in_map k m = perm_member map_is (stand k) (map_to stand (kept_list khs kns kxs r) k m)
 
         held : (k : KeptReading) → k ∈ kept_list khs kns kxs r → KeptHeld S counts head_states F.free k
-        held k m = kept_held S counts short bound F.fill (λ s i. ((tokens s i).0, (link_in S counts s (held-head s i)).low)) few k m
+        held k m = kept_held S counts short bound F.fill (λ s i. ((tokens s i).0, (link_in S counts s (held-head s i)).low)) all-found k m
 
         -- as the order of the list asks it
         pub all_met : (ord : List ℕ) (O : OrderIs (kept_is_before tk rs ls b ns khs kns kxs) r ord) → Met S counts decoded khs kns kxs r ord O head_states F.free
@@ -183,11 +182,11 @@ module _ {tk : List ℕ} {sm fs : List Float} {rs : List ℕ} {ls : List ℤ} {g
             }
 
     -- whether finals count or not
-    module _ (few : r ≤ most) where
+    module _ {r : ℕ} (all-found : found ≡ Some r) where
       all_sound : (k : KeptReading) → k ∈ kept_list khs kns kxs r → KeptSound tk rs ls b n used ns belows k
       all_sound k m =
-          case (counts_as S counts R) (λ e. counted_sound e.0 e.1 few k m)
-          (λ e. absurd (no-head e k.state (kept_held S counts short bound F.fill (λ s i. absurd (no-head e s i)) few k m).state_in))
+          case (counts_as S counts R) (λ e. counted_sound e.0 e.1 all-found k m)
+          (λ e. absurd (no-head e k.state (kept_held S counts short bound F.fill (λ s i. absurd (no-head e s i)) all-found k m).state_in))
         where
           no-head : take all order ≡ [] → (s : ℕ) → s ∈ head_states → ⊥
           no-head e s i = elim (subst (λ (l : List ℕ). s ∈ l) e (head_ranked S F.are s i)) [ ]

@@ -1,5 +1,5 @@
 -- What the steps of the reading list ask and leave.
-use Rattle.std.specs.Prelude.{◌≡◌, ℕ, ◌-◌, ◌+◌, ◌*◌, ◌≤◌, ◌<◌, Bool, true, false, not, ◌||◌, cond, List, map, ℤ, T, ltb, length, get_or, take, Float}
+use Rattle.std.specs.Prelude.{◌≡◌, ℕ, ◌-◌, ◌+◌, ◌*◌, ◌≤◌, ◌<◌, Bool, true, false, not, ◌||◌, cond, List, map, ℤ, T, ltb, length, get_or, take, Float, Option, Some, None, Result, Ok, Err}
 use Rattle.std.proofs.Math.Option.{some}
 use Rattle.std.specs.Float.Ieee.{is_nan}
 use Rattle.lists.specs.Lists.{keep_if}
@@ -8,7 +8,6 @@ use Rattle.model.specs.Reads.{use_finals}
 use Rattle.model.specs.Readings.{Below, readings}
 use Rattle.tokens.specs.Layout.{held_at, place_in}
 use Rattle.traceback.specs.declared.Candidate.{Candidate}
-use Rattle.traceback.specs.declared.Best.TheVariants.{Token as TokenOf}
 use Rattle.traceback.specs.Ranks.{candidate_at}
 use Rattle.traceback.specs.Chain.{Walkable}
 use Rattle.below.specs.Stored.{stands_for, Decoded}
@@ -25,10 +24,8 @@ use Rattle.merged.specs.Left.{kept_stands, own_still_left}
 use Rattle.listing_laws.specs.Situation.{Situation, Held}
 use Rattle.listing_laws.specs.Whole.{item_group, same_test}
 use Rattle.listing.specs.declared.Ranked.{Ranked}
-use Rattle.listing.specs.declared.KeptFound.{KeptFound}
-use Rattle.listing.specs.declared.KeptFound.TheVariants.{Full as NoPlace, Found as IsFound}
-use Rattle.listing.specs.declared.Listing.{Listing}
-use Rattle.listing.specs.declared.Listing.TheVariants.{Full, Items}
+use Rattle.refusals.specs.declared.Reason.{Reason}
+use Rattle.refusals.specs.declared.Reason.TheVariants.{ListsFull}
 
 -- ---- the stores and the scratch
 
@@ -57,7 +54,7 @@ pub record StoresAsk (tk : List ℕ) (sm fs : List Float) (rs : List ℕ) (ls : 
   pub few : n ≤ 65_535
   pub few_records : used ≤ 1_048_576
   pub situation : Situation tk sm fs rs ls gs n b used keeps margin
-  pub known : (counts : Bool) (s : ℕ) → s < n → (held_at tk (place_in b s) ≡ 0 → ⊥) → (c : Candidate) → candidate_at tk sm fs b s counts ≡ TokenOf c → T (not (is_nan c.rank))
+  pub known : (counts : Bool) (s : ℕ) → s < n → (held_at tk (place_in b s) ≡ 0 → ⊥) → (c : Candidate) → candidate_at tk sm fs b s counts ≡ Some c → T (not (is_nan c.rank))
 
 -- a place for every state, for every record, and for every kept reading that the store has places for
 pub record ScratchWide (n used kept : ℕ) (z : Scratch) : Type 0 where
@@ -132,16 +129,15 @@ pub record FindAsks (tk : List ℕ) (sm fs : List Float) (rs : List ℕ) (ls : L
   pub lists_long : used * 2 ≤ lists
   pub room : Room khs kns kxs most
 
--- the lists below the heads, and the map of kept readings, r of them or one more than the places
+-- the lists below the heads, and the map of kept readings, how many or none where they do not fit
 pub record Found (tk : List ℕ) (sm fs : List Float) (rs : List ℕ) (ls : List ℤ) (gs : List Float) (b used : ℕ) (margin : Float) (counts : Bool) (listed : ℕ) (bound : Float) (heads : List ℕ) (all : ℕ)
-    (hs ns : List ℕ) (xs : List Float) (entries : ℕ) (khs kns : List ℕ) (kxs : List Float) (most r : ℕ) : Type 0 where
+    (hs ns : List ℕ) (xs : List Float) (entries : ℕ) (khs kns : List ℕ) (kxs : List Float) (most : ℕ) (r : Option ℕ) : Type 0 where
   pub heads' : List ℕ
   pub m : ℕ
   pub are : HeadsListed tk sm fs rs ls b used counts bound heads heads' all m
   pub lists : List ℕ
   pub free : ℕ
-  pub some_free : free ≡ 0 → ⊥
-  pub below : BelowIs rs ls gs used margin (listed + 1) (head_links tk b heads' m) lists hs ns xs entries free
+  pub below : BelowIs rs ls gs used margin (listed + 1) (head_links tk b heads' m) lists hs ns xs entries (Some free)
   pub hashes : List ℕ
   pub links : List ℕ
   pub ksums : List Float
@@ -149,13 +145,13 @@ pub record Found (tk : List ℕ) (sm fs : List Float) (rs : List ℕ) (ls : List
 
 -- a full store, or how many were found
 pub data FoundIs (tk : List ℕ) (sm fs : List Float) (rs : List ℕ) (ls : List ℤ) (gs : List Float) (b used : ℕ) (margin : Float) (counts : Bool) (listed : ℕ) (bound : Float) (heads : List ℕ) (all : ℕ)
-    (hs ns : List ℕ) (xs : List Float) (entries : ℕ) (khs kns : List ℕ) (kxs : List Float) (most : ℕ) : KeptFound → Type 0 where
-  entries_full : (heads' : List ℕ) (m : ℕ) → HeadsListed tk sm fs rs ls b used counts bound heads heads' all m → (lists : List ℕ) → BelowIs rs ls gs used margin (listed + 1) (head_links tk b heads' m) lists hs ns xs entries 0
-      → FoundIs tk sm fs rs ls gs b used margin counts listed bound heads all hs ns xs entries khs kns kxs most NoPlace
-  map_full : (r : ℕ) → Found tk sm fs rs ls gs b used margin counts listed bound heads all hs ns xs entries khs kns kxs most r → most < r
-      → FoundIs tk sm fs rs ls gs b used margin counts listed bound heads all hs ns xs entries khs kns kxs most NoPlace
-  are_found : (r : ℕ) → Found tk sm fs rs ls gs b used margin counts listed bound heads all hs ns xs entries khs kns kxs most r → r ≤ most
-      → FoundIs tk sm fs rs ls gs b used margin counts listed bound heads all hs ns xs entries khs kns kxs most (IsFound r)
+    (hs ns : List ℕ) (xs : List Float) (entries : ℕ) (khs kns : List ℕ) (kxs : List Float) (most : ℕ) : Result ℕ Reason → Type 0 where
+  entries_full : (heads' : List ℕ) (m : ℕ) → HeadsListed tk sm fs rs ls b used counts bound heads heads' all m → (lists : List ℕ) → BelowIs rs ls gs used margin (listed + 1) (head_links tk b heads' m) lists hs ns xs entries None
+      → FoundIs tk sm fs rs ls gs b used margin counts listed bound heads all hs ns xs entries khs kns kxs most (Err ListsFull)
+  map_full : Found tk sm fs rs ls gs b used margin counts listed bound heads all hs ns xs entries khs kns kxs most None
+      → FoundIs tk sm fs rs ls gs b used margin counts listed bound heads all hs ns xs entries khs kns kxs most (Err ListsFull)
+  are_found : (r : ℕ) → Found tk sm fs rs ls gs b used margin counts listed bound heads all hs ns xs entries khs kns kxs most (Some r)
+      → FoundIs tk sm fs rs ls gs b used margin counts listed bound heads all hs ns xs entries khs kns kxs most (Ok r)
 
 -- ---- both together
 
@@ -189,7 +185,7 @@ pub record WithAsks (tk : List ℕ) (sm fs : List Float) (rs : List ℕ) (ls : L
   pub entries : ℕ
   pub nexts : entries * 3 ≤ length ns
   pub most : ℕ
-  pub found : Found tk sm fs rs ls gs b used margin counts listed (bound_of tk sm fs b counts own m listed) heads ranked.all hs ns xs entries khs kns kxs most r
+  pub found : Found tk sm fs rs ls gs b used margin counts listed (bound_of tk sm fs b counts own m listed) heads ranked.all hs ns xs entries khs kns kxs most (Some r)
   pub few : r ≤ most
   pub most_few : most ≤ 0x7fff_fff0
   pub room : Room khs kns kxs most
@@ -236,9 +232,9 @@ module _ {tk : List ℕ} {sm fs : List Float} {rs : List ℕ} {ls : List ℤ} {g
 
 -- a full store, or the items of the definition's readings; whatever state the stores stand for
 pub data ListingIs (tk : List ℕ) (sm fs : List Float) (rs : List ℕ) (ls : List ℤ) (gs : List Float) (n b used : ℕ) (keeps : Bool) (margin : Float) (counts : Bool) (listed entries kept : ℕ)
-    (hs ns : List ℕ) (xs : List Float) (khs kns : List ℕ) (kxs : List Float) (list : List ℕ) : Listing → Type 0 where
+    (hs ns : List ℕ) (xs : List Float) (khs kns : List ℕ) (kxs : List Float) (list : List ℕ) : Result ℕ Reason → Type 0 where
   is_full : ((S : Situation tk sm fs rs ls gs n b used keeps margin) (use_final : Bool) → counts ≡ use_finals S.g S.st use_final → overfull S use_final listed entries kept ≡ true)
-      → ListingIs tk sm fs rs ls gs n b used keeps margin counts listed entries kept hs ns xs khs kns kxs list Full
+      → ListingIs tk sm fs rs ls gs n b used keeps margin counts listed entries kept hs ns xs khs kns kxs list (Err ListsFull)
   are_items : (k : ℕ) → k ≤ length list → k ≤ n + kept
       → ((S : Situation tk sm fs rs ls gs n b used keeps margin) (use_final : Bool) → counts ≡ use_finals S.g S.st use_final → (overfull S use_final listed entries kept ≡ false) × ListIs S counts use_final listed hs ns xs khs kns kxs list k)
-      → ListingIs tk sm fs rs ls gs n b used keeps margin counts listed entries kept hs ns xs khs kns kxs list (Items k)
+      → ListingIs tk sm fs rs ls gs n b used keeps margin counts listed entries kept hs ns xs khs kns kxs list (Ok k)

@@ -1,5 +1,5 @@
 -- The list of own groups and kept readings is the definition's, for every state that the stores stand for. Assumes nothing.
-use Rattle.std.specs.Prelude.{◌≡◌, refl, ◌⊎◌, ℕ, ◌-◌, ◌*◌, ◌≤◌, ◌<◌, Bool, true, false, cond, List, [], ◌∷◌, map, ℤ, length, get_or, take, Float}
+use Rattle.std.specs.Prelude.{◌≡◌, refl, ◌⊎◌, ℕ, ◌-◌, ◌*◌, ◌≤◌, ◌<◌, Bool, true, false, cond, List, [], ◌∷◌, map, ℤ, length, get_or, take, Float, Some}
 use Rattle.std.proofs.Common.{sym, ap, ◌∙◌, subst, inl, inr, arith}
 use mathlib.Core.List.Memᴰ.{head as here}
 use mathlib.Core.List.Memᴰ.{tail as there}
@@ -8,7 +8,7 @@ use Rattle.lists.specs.Lists.{◌∈◌, keep_if}
 use Rattle.lists.specs.Members.{keep_from, map_from}
 use Rattle.lists.specs.Merge.{merge_one, merge_of}
 use Rattle.model.specs.Reads.{use_finals}
-use Rattle.model.specs.Readings.{Below, readings}
+use Rattle.model.specs.Readings.{Below}
 use Rattle.below.specs.Stored.{stands_for}
 use Rattle.kept_readings.specs.Kept.{kept_read_in as kept_place, Room}
 use Rattle.merged.specs.Items.{kept_first, listed_kept, merged_items}
@@ -57,7 +57,7 @@ module _ (first : ℕ → ℕ → Bool) where
 
 module _ {tk : List ℕ} {sm fs : List Float} {rs : List ℕ} {ls : List ℤ} {gs : List Float} {n b used : ℕ} {margin : Float} (S : Situation tk sm fs rs ls gs n b used true margin) (few_states : n ≤ 65_535) (few_records : used ≤ 1_048_576) (counts f : Bool) (c : counts ≡ use_finals S.g S.st f)
     {heads own : List ℕ} {ranked : Ranked} (O : OwnListed tk sm fs rs ls b n used counts heads own ranked) {listed : ℕ} (begins : 0 < listed)
-    {hs ns : List ℕ} {xs : List Float} {entries : ℕ} {khs kns : List ℕ} {kxs : List Float} {most r : ℕ} (F : Found tk sm fs rs ls gs b used margin counts listed (bound_of tk sm fs b counts own ranked.own listed) heads ranked.all hs ns xs entries khs kns kxs most r) (few : r ≤ most)
+    {hs ns : List ℕ} {xs : List Float} {entries : ℕ} {khs kns : List ℕ} {kxs : List Float} {most r : ℕ} (F : Found tk sm fs rs ls gs b used margin counts listed (bound_of tk sm fs b counts own ranked.own listed) heads ranked.all hs ns xs entries khs kns kxs most (Some r)) (few : r ≤ most)
     (nexts : entries * 3 ≤ length ns) (room : Room khs kns kxs most) {list : List ℕ} {k : ℕ} (W : WithIs tk sm fs rs ls b counts own ranked.own ns khs kns kxs r list k) where
   abbrev bs : List Below
   bs = belows S F
@@ -67,7 +67,7 @@ module _ {tk : List ℕ} {sm fs : List Float} {rs : List ℕ} {ls : List ℤ} {g
   item_held x (inr (i, m, e)) =
       let low = order_low W.ordered i m in
       let z : i ≡ x - 2_147_483_648 = omega arith in
-      let y = sound_at S F few_records O.ranked few i low in
+      let y = sound_at S F few_records O.ranked refl i low in
       record {
         own = λ u. absurd (omega arith);
         room = λ u. room_less room (omega arith);
@@ -94,6 +94,6 @@ module _ {tk : List ℕ} {sm fs : List Float} {rs : List ℕ} {ls : List ℤ} {g
             (λ j. inr (j.0, keep_from (kept_stands same first (take ranked.own own)) (take r W.order) j.0 j.1, j.2)));
         are = ap (map (item_group S counts bs khs kns kxs)) W.is
             ∙ list_is S few_states f counts c O.ranked O.copied O.firsts O.room (found_known S F few_records O.ranked f c) (decoded S F) khs kns kxs r W.order W.ordered
-            (all_met S F few_records O.ranked f c few W.order W.ordered) (map_is S F few_records O.ranked f c few)
+            (all_met S F few_records O.ranked f c refl W.order W.ordered) (map_is S F few_records O.ranked f c refl)
             ∙ sym (groups_are S few_records counts f c O listed begins);
       }

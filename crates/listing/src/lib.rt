@@ -6,18 +6,11 @@ ghost use Rattle.summaries.specs.Summed.{Keys, Summed};
 ghost use Rattle.merged.specs.Items.{kept_first};
 ghost use Rattle.listing_laws.specs.Whole.{same_test};
 ghost use Rattle.places.specs.Places.{entry_places, kept_places};
-ghost use Rattle.listing.specs.Listed.{scratch, slices, ListingAsks, OwnListAsks, Copied, bound_of, BoundAsks, OwnListed, HeadsListed, FindAsks, FoundIs, WithAsks, WithIs, ListingIs};
+ghost use Rattle.listing.specs.Listed.{scratch, slices, ListingAsks, OwnListAsks, bound_of, BoundAsks, OwnListed, HeadsListed, FindAsks, FoundIs, WithAsks, WithIs, ListingIs};
 ghost use Rattle.listing.specs.Finding.{HeadsListAsks};
 ghost use Rattle.listing.specs.Settling.{SettleAsks, Settled};
 
-fn copy(from: &[u32], to: &mut [u32], n: usize)
-    requires { (n ≤ length from.now) × (n ≤ length to.old) }
-    ensures { Copied from.now to.new n }
-{
-    for i in 0..n {
-        to[i] = from[i];
-    }
-}
+use refusals::Reason;
 
 // What a kept reading has to rank below: the rank of the listed-th of the m own groups.
 fn bound_of(
@@ -34,7 +27,7 @@ fn bound_of(
     ensures { result ≡ bound_of tokens.now sums.now finals.now side counts own.now m listed }
 {
     if m < listed {
-        return real32::infinity();
+        return f32::INFINITY;
     }
     merged::own_rank(tokens, sums, finals, side, counts, own[listed - 1])
 }
@@ -68,7 +61,7 @@ fn list_own(
     ensures { OwnListed tokens.now sums.now finals.now records.now labels.now side states used counts heads.new own.new result }
 {
     let all = ranking::ranked(tokens, sums, finals, states, side, counts, keys, heads);
-    copy(heads, own, all);
+    own[..all].copy_from_slice(&heads[..all]);
     let m = groups::firsts(
         tokens,
         records,
@@ -84,13 +77,6 @@ fn list_own(
         places,
     );
     Ranked { all, own: m }
-}
-
-// A store that is full, or how many kept readings there are.
-#[derive(Clone, Copy)]
-pub enum KeptFound {
-    Full,
-    Found(usize),
 }
 
 // The states whose histories are read below their newest joins: how many there are.
@@ -133,7 +119,7 @@ fn list_heads(
     )
 }
 
-// The lists below the heads among the n ranked states, and the readings that they keep.
+// The lists below the heads among the n ranked states, and the readings that they keep: how many, if the stores have places for all.
 fn find_kept(
     tokens: &[u32],
     sums: &[f32],
@@ -162,7 +148,7 @@ fn find_kept(
     kept_links: &mut [u32],
     kept_sums: &mut [f32],
     most: usize,
-) -> KeptFound
+) -> Result<usize, Reason>
     requires { (FindAsks tokens.now sums.now finals.now records.now labels.now gaps.now states side used counts margin listed heads.old n (length keys.old) (length places.old) (length lists.old) kept_hashes.old kept_links.old kept_sums.old most) × (Summed records.now labels.now used history_keys.now history_skips.now) }
     ensures { FoundIs tokens.now sums.now finals.now records.now labels.now gaps.now side used margin counts listed bound heads.old n hashes.new nexts.new costs.new (entry_places (length hashes.old) (length nexts.old) (length costs.old)) kept_hashes.new kept_links.new kept_sums.new most result }
 {
@@ -184,7 +170,7 @@ fn find_kept(
         places,
     );
     let room = places::entry_places(hashes.len(), nexts.len(), costs.len());
-    let free = below::fill_below(
+    below::fill_below(
         tokens,
         side,
         records,
@@ -200,11 +186,9 @@ fn find_kept(
         nexts,
         costs,
         room,
-    );
-    if free == 0 {
-        return KeptFound::Full;
-    }
-    let r = kept_readings::fill_kept(
+    )
+    .ok_or(Reason::ListsFull)?;
+    let kept = kept_readings::fill_kept(
         tokens,
         sums,
         finals,
@@ -225,10 +209,7 @@ fn find_kept(
         kept_sums,
         most,
     );
-    if most < r {
-        return KeptFound::Full;
-    }
-    KeptFound::Found(r)
+    kept.ok_or(Reason::ListsFull)
 }
 
 // How many own groups and kept readings there are.
@@ -396,20 +377,13 @@ fn list_with(
     )
 }
 
-// A store that is full (15), or how many readings there are.
-#[derive(Clone, Copy)]
-pub enum Listing {
-    Full,
-    Items(usize),
-}
-
 fn is_listing(keeps: bool, listed: usize) -> bool
     ensures { result ≡ (keeps && ltb 0 listed) }
 {
     keeps && 0 < listed
 }
 
-// The list of all readings: an own group is the state of its token, a kept reading is 2³¹ and its number.
+// The list of all readings: an own group is the state of its token, a kept reading is 2³¹ and its number. Gives how many there are, if the stores have places for all.
 pub fn list_readings(
     tokens: &[u32],
     sums: &[f32],
@@ -440,7 +414,7 @@ pub fn list_readings(
     kept_links: &mut [u32],
     kept_sums: &mut [f32],
     order: &mut [u32],
-) -> Listing
+) -> Result<usize, Reason>
     requires { (ListingAsks tokens.now sums.now finals.now records.now labels.now gaps.now states side used keeps margin (kept_places (length kept_hashes.old) (length kept_links.old) (length kept_sums.old)) (scratch (length keys.old) (length places.old) (length own.old) (length heads.old) (length list.old) (length lists.old) (length route.old) (length order.old))) × (listed ≤ 64) × (Summed records.now labels.now used history_keys.now history_skips.now) }
     ensures { ListingIs tokens.now sums.now finals.now records.now labels.now gaps.now states side used keeps margin counts listed (entry_places (length hashes.old) (length nexts.old) (length costs.old)) (kept_places (length kept_hashes.old) (length kept_links.old) (length kept_sums.old)) hashes.new nexts.new costs.new kept_hashes.new kept_links.new kept_sums.new list.new result }
 {
@@ -462,12 +436,12 @@ pub fn list_readings(
         heads,
     );
     if !is_listing(keeps, listed) {
-        copy(own, list, r.own);
-        return Listing::Items(r.own);
+        list[..r.own].copy_from_slice(&own[..r.own]);
+        return Ok(r.own);
     }
     let bound = bound_of(tokens, sums, finals, side, counts, own, r.own, listed);
     let most = places::kept_places(kept_hashes.len(), kept_links.len(), kept_sums.len());
-    match find_kept(
+    let n = find_kept(
         tokens,
         sums,
         finals,
@@ -495,33 +469,31 @@ pub fn list_readings(
         kept_links,
         kept_sums,
         most,
-    ) {
-        KeptFound::Full => Listing::Full,
-        KeptFound::Found(n) => Listing::Items(list_with(
-            tokens,
-            sums,
-            finals,
-            records,
-            labels,
-            states,
-            side,
-            used,
-            history_keys,
-            counts,
-            own,
-            r.own,
-            keys,
-            places,
-            heads,
-            nexts,
-            kept_hashes,
-            kept_links,
-            kept_sums,
-            order,
-            n,
-            route,
-            lists,
-            list,
-        )),
-    }
+    )?;
+    Ok(list_with(
+        tokens,
+        sums,
+        finals,
+        records,
+        labels,
+        states,
+        side,
+        used,
+        history_keys,
+        counts,
+        own,
+        r.own,
+        keys,
+        places,
+        heads,
+        nexts,
+        kept_hashes,
+        kept_links,
+        kept_sums,
+        order,
+        n,
+        route,
+        lists,
+        list,
+    ))
 }

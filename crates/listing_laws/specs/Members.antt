@@ -1,5 +1,5 @@
 -- Every kept reading in the map is of a head, by an entry that was put, with its token's seq. Assumes nothing.
-use Rattle.std.specs.Prelude.{◌≡◌, refl, ◌⊎◌, ℕ, ◌+◌, ◌-◌, ◌≤◌, ◌<◌, Bool, true, false, cond, List, [], ◌∷◌, map, ℤ, take, Float}
+use Rattle.std.specs.Prelude.{◌≡◌, refl, ◌⊎◌, ℕ, ◌+◌, ◌-◌, ◌≤◌, ◌<◌, Bool, true, false, cond, List, [], ◌∷◌, map, ℤ, take, Float, Option, Some, is_some}
 use Rattle.std.proofs.Common.{sym, ap, ◌∙◌, subst, inl, inr, arith}
 use mathlib.Core.List.Memᴰ
 use mathlib.Core.List.Memᴰ.{head as here}
@@ -7,7 +7,7 @@ use mathlib.Core.List.Memᴰ.{tail as there}
 use Rattle.lists.specs.Tests.{case}
 use Rattle.lists.specs.Lists.{◌∈◌, range}
 use Rattle.lists.specs.Members.{keep_from, map_from}
-use Rattle.traceback.specs.declared.Best.{Best}
+use Rattle.traceback.specs.declared.Candidate.{Candidate}
 use Rattle.traceback.specs.Ranks.{candidate_at}
 use Rattle.histories.specs.declared.Hashed.{Hashed}
 use Rattle.groups.specs.Firsts.{link_at}
@@ -16,7 +16,7 @@ use Rattle.below.specs.Stored.{first_at, count_at}
 use Rattle.below.specs.Short.{Short}
 use Rattle.below.specs.Maps.{range_member}
 use Rattle.kept_readings.specs.declared.KeptReading.{KeptReading}
-use Rattle.kept_readings.specs.Kept.{kept_list, same_kept, sooner_kept, add_to, all_from, Added, are_added, are_more, ranks_below, within}
+use Rattle.kept_readings.specs.Kept.{kept_list, same_kept, sooner_kept, add_to, all_from, Added, are_added, ranks_below, within}
 use Rattle.kept_readings.specs.Heads.{kept_by, kept_starts_from, kept_under, HeadsKept, no_heads, head_on, FillIs}
 use Rattle.kept_readings.specs.Meaning.{Head, stood}
 use Rattle.listing_laws.specs.Situation.{Situation}
@@ -59,7 +59,7 @@ module _ {tk : List ℕ} {sm fs : List Float} {rs : List ℕ} {ls : List ℤ} {g
         let c = x.candidate in
         let first = first_at lists join in
         let count = count_at lists join in
-        let i : k ∈ within bound (kept_starts_from hs ns xs c counts above (first + 1) (count - 1)) = subst (λ (y : Best). k ∈ kept_under hs ns xs y counts bound above first count) x.is m in
+        let i : k ∈ within bound (kept_starts_from hs ns xs c counts above (first + 1) (count - 1)) = subst (λ (y : Option Candidate). k ∈ kept_under hs ns xs y counts bound above first count) x.is m in
         let (z, j, u) = map_from (λ (z : ℕ). kept_by c counts above z (entry_at hs ns xs z)) (range (first + 1) (count - 1)) k (keep_from (ranks_below bound) (kept_starts_from hs ns xs c counts above (first + 1) (count - 1)) k i) in
         let r = (range_member (first + 1) (count - 1) z j).0 in
         let q = (range_member (first + 1) (count - 1) z j).1 in
@@ -77,13 +77,15 @@ module _ {tk : List ℕ} {sm fs : List Float} {rs : List ℕ} {ls : List ℤ} {g
         (λ i. let z = heads_held ss js (λ t j. d t (there j)) Ks k i in record { state_in = there z.state_in; entry_low = z.entry_low; seq = z.seq })
 
     -- every one in the map
-    pub kept_held : {heads : List ℕ} {m : ℕ} {khs kns : List ℕ} {kxs : List Float} {places : ℕ} {khs' kns' : List ℕ} {kxs' : List Float} {r : ℕ} (F : FillIs tk sm fs rs ls b used counts bound heads m lists hs ns xs khs kns kxs places khs' kns' kxs' r)
-        → ((s : ℕ) → s ∈ take m heads → Head S.g tk b n counts S.st.table s × (link_at tk b s ≤ used)) → r ≤ places → (k : KeptReading) → k ∈ kept_list khs' kns' kxs' r → KeptHeld (take m heads) next k
-    kept_held {heads} {m} {khs} {kns} {kxs} {places} {khs'} {kns'} {kxs'} {r} F d l k i = subst (λ (j : ℕ). KeptHeld (take j heads) next k) (F.all l) (go F.added)
+    pub kept_held : {heads : List ℕ} {m : ℕ} {khs kns : List ℕ} {kxs : List Float} {places : ℕ} {khs' kns' : List ℕ} {kxs' : List Float} {r : Option ℕ} (F : FillIs tk sm fs rs ls b used counts bound heads m lists hs ns xs khs kns kxs places khs' kns' kxs' r)
+        → ((s : ℕ) → s ∈ take m heads → Head S.g tk b n counts S.st.table s × (link_at tk b s ≤ used)) → {n : ℕ} → r ≡ Some n → (k : KeptReading) → k ∈ kept_list khs' kns' kxs' n → KeptHeld (take m heads) next k
+    kept_held {heads} {m} {khs} {kns} {kxs} {places} {khs'} {kns'} {kxs'} F d {n} q k i = subst (λ (j : ℕ). KeptHeld (take j heads) next k) all (go (subst (λ (x : Option ℕ). Added khs kns kxs 0 F.ks places khs' kns' kxs' x) q F.added))
       where
-        go : Added khs kns kxs 0 F.ks places khs' kns' kxs' r → KeptHeld (take F.j heads) next k
-        go A = heads_held (take F.j heads) F.ks (λ s m. d s (subst (λ (j : ℕ). s ∈ take j heads) (F.all l) m)) F.are k (member A)
+        all : F.j ≡ m
+        all = F.all (ap is_some q)
+
+        go : Added khs kns kxs 0 F.ks places khs' kns' kxs' (Some n) → KeptHeld (take F.j heads) next k
+        go A = heads_held (take F.j heads) F.ks (λ s m. d s (subst (λ (j : ℕ). s ∈ take j heads) all m)) F.are k (member A)
           where
-            member : Added khs kns kxs 0 F.ks places khs' kns' kxs' r → k ∈ F.ks
-            member (are_more e u) = absurd (omega arith)
-            member (are_added u e) = case (all_from_lem same_kept sooner_kept [] F.ks k (subst (λ (l : List KeptReading). k ∈ l) e i)) (λ j. elim j [ ]) (λ j. j)
+            member : Added khs kns kxs 0 F.ks places khs' kns' kxs' (Some n) → k ∈ F.ks
+            member (are_added j u e) = case (all_from_lem same_kept sooner_kept [] F.ks k (subst (λ (l : List KeptReading). k ∈ l) e i)) (λ j. elim j [ ]) (λ j. j)

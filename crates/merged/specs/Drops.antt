@@ -1,5 +1,5 @@
 -- Of a kept reading and the own group of its words the later one goes. Assumes nothing.
-use Rattle.std.specs.Prelude.{◌≡◌, refl, ℕ, ◌+◌, ◌≤◌, ◌<◌, Bool, true, false, cond, List, reverse, eqb, ℤ, length, get_or, take, set, Float}
+use Rattle.std.specs.Prelude.{◌≡◌, refl, ℕ, ◌+◌, ◌≤◌, ◌<◌, Bool, true, false, cond, List, reverse, eqb, ℤ, length, get_or, take, set, Float, Option}
 use Rattle.std.proofs.Common.{sym, ap, ◌∙◌, subst, arith, length-set, get_or-set_same, get_or-set_other}
 use Rattle.std.proofs.lemmas.List.{reverse-reverse}
 use Rattle.lists.specs.Tests.{case, never, eq_or_not}
@@ -200,5 +200,5 @@ module _ {tk rs : List ℕ} {ls : List ℤ} {b used : ℕ} {nx hs ns : List ℕ}
           hash = ap (λ (k : KeptReading). k.hash) e ∙ K.hash ∙ ap hash_words (sym words_are);
         }
 
-    pub twin_told : {words : ℕ → List ℤ} {m p : ℕ} → TwinIs words m (back_along rs ls (take n route') (link_at tk b k.state)) p → TwinIs words m (kept_words rs ls tk b nx (kept_read_in hs ns xs i)) p
+    pub twin_told : {words : ℕ → List ℤ} {m : ℕ} {p : Option ℕ} → TwinIs words m (back_along rs ls (take n route') (link_at tk b k.state)) p → TwinIs words m (kept_words rs ls tk b nx (kept_read_in hs ns xs i)) p
     twin_told {words} {m} {p} T = subst (λ (ws : List ℤ). TwinIs words m ws p) words_are T

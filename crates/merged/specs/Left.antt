@@ -1,6 +1,7 @@
 -- The marks, and what is left of both lists once what was dropped is gone. Assumes nothing.
-use Rattle.std.specs.Prelude.{◌≡◌, refl, ℕ, zero, suc, ◌+◌, ◌≤◌, ◌<◌, Bool, true, false, not, ◌&&◌, ◌||◌, cond, List, [], ◌∷◌, eqb, length, get_or, take, set}
+use Rattle.std.specs.Prelude.{◌≡◌, refl, ℕ, zero, suc, ◌+◌, ◌≤◌, ◌<◌, Bool, true, false, not, ◌&&◌, ◌||◌, cond, List, [], ◌∷◌, ◌++◌, eqb, length, get_or, take, drop, set, replicate}
 use Rattle.std.proofs.Common.{sym, ap, ap₂, ◌∙◌, arith, length-set, get_or-set_same, get_or-set_other, get_or-take, length-take-le, eq-eqb, ne_eqb}
+use Rattle.std.proofs.lemmas.List.{get_or_append_left, get_or-replicate, length-replicate}
 use Rattle.lists.specs.Tests.{case, either, never, eq_or_not, and_both}
 use Rattle.lists.specs.Lists.{any, keep_if}
 use Rattle.groups.specs.Firsts.{dropped}
@@ -9,8 +10,9 @@ use Rattle.merged.specs.Drops.{KeptJudged, kept_stays, kept_goes, OwnJudged, own
 abbrev pub Cleared : (gone : List ℕ) → (m : ℕ) → Type 0
 Cleared gone m = (p : ℕ) → p < m → get_or gone p 0 ≡ 0
 
-pub cleared_next : (gone : List ℕ) (p : ℕ) → p < length gone → Cleared gone p → Cleared (set gone p 0) (p + 1)
-cleared_next gone p l C q u = case (eq_or_not q p) (λ e. ap (λ (k : ℕ). get_or (set gone p 0) k 0) e ∙ get_or-set_same gone p 0 0 l) (λ d. get_or-set_other gone p q 0 0 d ∙ C q (omega arith))
+pub cleared_all : (gone gone' : List ℕ) (m : ℕ) → gone' ≡ replicate m 0 ++ drop m gone → Cleared gone' m
+cleared_all gone gone' m e p l =
+    ap (λ (x : List ℕ). get_or x p 0) e ∙ get_or_append_left (replicate m 0) (drop m gone) 0 p (let z = length-replicate {A = ℕ} m 0 in omega arith) ∙ get_or-replicate m p 0 0 l
 
 -- the marked ones are dropped, and every other stays
 pub record GoneDropped (own own' gone : List ℕ) (m : ℕ) : Type 0 where

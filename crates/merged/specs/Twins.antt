@@ -1,5 +1,5 @@
 -- The own group that reads the same words as a kept reading. Assumes nothing.
-use Rattle.std.specs.Prelude.{◌≡◌, ℕ, ◌+◌, ◌*◌, ◌≤◌, ◌<◌, Bool, true, false, List, [], ℤ, length, get_or}
+use Rattle.std.specs.Prelude.{◌≡◌, ℕ, ◌+◌, ◌*◌, ◌≤◌, ◌<◌, Bool, true, false, List, [], ℤ, length, get_or, Option, Some, None, IfSome, IfNone}
 use Rattle.std.proofs.Common.{sym, ap, ◌∙◌, subst, arith}
 use Rattle.lists.specs.Tests.{case, either, lt_or_le, eq_or_not}
 use Rattle.model.specs.Path.{same_words}
@@ -53,11 +53,10 @@ pub record TwinAsks (tk rs : List ℕ) (ls : List ℤ) (b used : ℕ) (own : Lis
   pub sorted : HashesSorted (words_in rs ls tk b own) m ks ps
   pub hash : k.hash ≡ hash_words (back_along rs ls route (link_at tk b k.state))
 
--- the place of the one with these words, m for none
-pub record TwinIs (words : ℕ → List ℤ) (m : ℕ) (ws : List ℤ) (r : ℕ) : Type 0 where
-  pub few : r ≤ m
-  pub same : r < m → same_words ws (words r) ≡ true
-  pub none : r ≡ m → (p : ℕ) → p < m → same_words ws (words p) ≡ false
+-- the place of the one with these words
+pub record TwinIs (words : ℕ → List ℤ) (m : ℕ) (ws : List ℤ) (r : Option ℕ) : Type 0 where
+  pub same : IfSome r (λ p. (p < m) × (same_words ws (words p) ≡ true))
+  pub none : IfNone r ((p : ℕ) → p < m → same_words ws (words p) ≡ false)
 
 module _ (words : ℕ → List ℤ) (m : ℕ) (ks ps : List ℕ) (ws : List ℤ) where
   -- before the i-th of the sorted places there is none
@@ -73,22 +72,21 @@ module _ (words : ℕ → List ℤ) (m : ℕ) (ks ps : List ℕ) (ws : List ℤ)
     pub twins_begun : {x i : ℕ} → x ≡ hash_words ws → LowerBound ks m x i → NoTwinTo i
     twins_begun e L = record { few = L.few; none = λ q l. let z = L.below q l in let y = L.few in other_hash q (omega arith) (λ d. omega arith); above = λ q l u. let z = L.above q l u in omega arith }
 
-    twin_none : {i : ℕ} → NoTwinTo i → ((q : ℕ) → i ≤ q → q < m → same_words ws (words (get_or ps q 0)) ≡ false) → TwinIs words m ws m
+    twin_none : {i : ℕ} → NoTwinTo i → ((q : ℕ) → i ≤ q → q < m → same_words ws (words (get_or ps q 0)) ≡ false) → TwinIs words m ws None
     twin_none {i} N f =
         record {
-          few = omega arith;
-          same = λ l. absurd (omega arith);
-          none = λ e p l. let P = S.every p l in subst (λ (k : ℕ). same_words ws (words k) ≡ false) P.is (case (lt_or_le P.at i) (N.none P.at) (λ u. f P.at u P.few));
+          same = tt;
+          none = λ p l. let P = S.every p l in subst (λ (k : ℕ). same_words ws (words k) ≡ false) P.is (case (lt_or_le P.at i) (N.none P.at) (λ u. f P.at u P.few));
         }
 
-    pub twin_ended : {i : ℕ} → NoTwinTo i → m ≤ i → TwinIs words m ws m
+    pub twin_ended : {i : ℕ} → NoTwinTo i → m ≤ i → TwinIs words m ws None
     twin_ended N u = twin_none N (λ q l v. absurd (omega arith))
 
-    pub twin_past : {i x : ℕ} → NoTwinTo i → i < m → x ≡ hash_words ws → (get_or ks i 0 ≡ x → ⊥) → TwinIs words m ws m
+    pub twin_past : {i x : ℕ} → NoTwinTo i → i < m → x ≡ hash_words ws → (get_or ks i 0 ≡ x → ⊥) → TwinIs words m ws None
     twin_past {i} N l e d = twin_none N (λ q u v. let z = S.keys.sorted i q u v in let y = N.above i (omega arith) l in other_hash q v (λ w. d (omega arith)))
 
-    pub twin_found : {i : ℕ} → i < m → {r : Bool} → r ≡ same_words ws (words (get_or ps i 0)) → r ≡ true → TwinIs words m ws (get_or ps i 0)
-    twin_found {i} l e t = let z = S.inside i l in record { few = omega arith; same = λ u. sym e ∙ t; none = λ q. absurd (omega arith) }
+    pub twin_found : {i : ℕ} → i < m → {r : Bool} → r ≡ same_words ws (words (get_or ps i 0)) → r ≡ true → TwinIs words m ws (Some (get_or ps i 0))
+    twin_found {i} l e t = record { same = (S.inside i l, sym e ∙ t); none = tt }
 
     pub twins_next : {i : ℕ} → NoTwinTo i → i < m → {r : Bool} → r ≡ same_words ws (words (get_or ps i 0)) → r ≡ false → NoTwinTo (i + 1)
     twins_next {i} N l e t = record { few = omega arith; none = λ q u. case (eq_or_not q i) (λ z. ap (λ (k : ℕ). same_words ws (words (get_or ps k 0))) z ∙ sym e ∙ t) (λ z. N.none q (omega arith)); above = λ q u v. N.above q (omega arith) v }

@@ -1,5 +1,5 @@
 -- The key of a token that counts: to compare keys is to compare tokens. Assumes nothing.
-use Rattle.std.specs.Prelude.{◌≡◌, ℕ, ◌+◌, ◌-◌, ◌*◌, ◌^◌, ◌<◌, not, ◌&&◌, ◌||◌, T, ltb, eqb}
+use Rattle.std.specs.Prelude.{◌≡◌, ℕ, ◌+◌, ◌-◌, ◌*◌, ◌^◌, ◌<◌, not, ◌&&◌, ◌||◌, T, ltb, eqb, Float}
 use Rattle.std.proofs.Common.{arith, lt-ltb, le-ltb, eq-eqb, ne_eqb}
 use Rattle.std.specs.Float.{binary32}
 use Rattle.std.specs.Float.Ieee.{is_nan, fits}
@@ -10,8 +10,11 @@ use Rattle.traceback.specs.declared.Candidate.{Candidate}
 use Rattle.traceback.specs.Ranks.{sooner_of}
 
 -- the rank, and behind it how far the seq is from the largest
+abbrev pub key_of_rank : (rank : Float) → (seq : ℕ) → ℕ
+key_of_rank x s = rank binary32 x * 2 ^ 32 + (2 ^ 32 - 1 - s)
+
 abbrev pub key_of : Candidate → ℕ
-key_of c = rank binary32 c.rank * 2 ^ 32 + (2 ^ 32 - 1 - c.seq)
+key_of c = key_of_rank c.rank c.seq
 
 -- two numbers in one, the second turned round
 in_one : (x y s t : ℕ) → s < 2 ^ 32 → t < 2 ^ 32 → (ltb x y || (eqb x y && ltb t s)) ≡ ltb (x * 2 ^ 32 + (2 ^ 32 - 1 - s)) (y * 2 ^ 32 + (2 ^ 32 - 1 - t))

@@ -1,5 +1,5 @@
 -- The states whose tokens count, ascending, and their keys, in the fronts of two lent lists. Assumes nothing.
-use Rattle.std.specs.Prelude.{◌≡◌, refl, ℕ, zero, suc, ◌+◌, ◌-◌, ◌≤◌, ◌<◌, Bool, true, false, not, ◌&&◌, cond, List, [], ◌∷◌, ◌++◌, map, T, ltb, length, take, set, Float}
+use Rattle.std.specs.Prelude.{◌≡◌, refl, ℕ, zero, suc, ◌+◌, ◌-◌, ◌≤◌, ◌<◌, Bool, true, false, not, ◌&&◌, cond, List, [], ◌∷◌, ◌++◌, map, T, ltb, length, take, set, Float, Option, Some, None}
 use Rattle.std.proofs.Common.{sym, ap, ap₂, ◌∙◌, arith, add-one, append-nil, take-suc-set, lt-ltb}
 use mathlib.Core.List.Memᴰ
 use mathlib.Core.List.Memᴰ.{head as here}
@@ -13,8 +13,6 @@ use Rattle.tokens.specs.Layout.{cell_at, token_of, held_at, place_in, NextActive
 use Rattle.tokens.specs.declared.Token.{Token as Stored}
 use Rattle.sorting.specs.Keyed.{Ascending}
 use Rattle.traceback.specs.declared.Candidate.{Candidate}
-use Rattle.traceback.specs.declared.Best.{Best}
-use Rattle.traceback.specs.declared.Best.TheVariants.{Nobody, Token}
 use Rattle.model.specs.Basics.{◌⊕◌}
 use Rattle.traceback.specs.Ranks.{weight_in, rank_in, candidate_of, candidate_at}
 use Rattle.ranking.specs.Keys.{key_of}
@@ -60,33 +58,33 @@ module _ (p : ℕ → Bool) where
 
 -- ---- what a candidate adds
 
-abbrev pub counted : Best → Bool
-counted Nobody = false
-counted (Token c) = true
+abbrev pub counted : Option Candidate → Bool
+counted None = false
+counted (Some c) = true
 
-abbrev pub key_in : Best → List ℕ
-key_in Nobody = []
-key_in (Token c) = key_of c ∷ []
+abbrev pub key_in : Option Candidate → List ℕ
+key_in None = []
+key_in (Some c) = key_of c ∷ []
 
-abbrev pub state_among : Best → List ℕ
-state_among Nobody = []
-state_among (Token c) = c.state ∷ []
+abbrev pub state_among : Option Candidate → List ℕ
+state_among None = []
+state_among (Some c) = c.state ∷ []
 
-pub record PutAsks (keys order : List ℕ) (n : ℕ) (best : Best) : Type 0 where
+pub record PutAsks (keys order : List ℕ) (n : ℕ) (best : Option Candidate) : Type 0 where
   pub keys_long : n < length keys
   pub order_long : n < length order
-  pub known : (c : Candidate) → best ≡ Token c → T (not (is_nan c.rank))
+  pub known : (c : Candidate) → best ≡ Some c → T (not (is_nan c.rank))
 
-pub record Put (keys keys' order order' : List ℕ) (n : ℕ) (best : Best) (r : ℕ) : Type 0 where
+pub record Put (keys keys' order order' : List ℕ) (n : ℕ) (best : Option Candidate) (r : ℕ) : Type 0 where
   pub few : r ≤ n + 1
   pub keys_are : take r keys' ≡ take n keys ++ key_in best
   pub order_are : take r order' ≡ take n order ++ state_among best
 
-module _ {keys order : List ℕ} {n : ℕ} {best : Best} where
-  pub put_nobody : best ≡ Nobody → Put keys keys order order n best n
+module _ {keys order : List ℕ} {n : ℕ} {best : Option Candidate} where
+  pub put_nobody : best ≡ None → Put keys keys order order n best n
   put_nobody e = rw e record { few = omega arith; keys_are = sym (append-nil (take n keys)); order_are = sym (append-nil (take n order)) }
 
-  pub put_token : (c : Candidate) (key : ℕ) → PutAsks keys order n best → best ≡ Token c → key ≡ key_of c → Put keys (set keys n key) order (set order n c.state) n best (n + 1)
+  pub put_token : (c : Candidate) (key : ℕ) → PutAsks keys order n best → best ≡ Some c → key ≡ key_of c → Put keys (set keys n key) order (set order n c.state) n best (n + 1)
   put_token c key a e q =
       rw (e, q, add-one n) record { few = omega arith; keys_are = take-suc-set keys n (key_of c) a.keys_long; order_are = take-suc-set order n c.state a.order_long }
 
@@ -96,9 +94,9 @@ module _ {keys order : List ℕ} {n : ℕ} {best : Best} where
 abbrev pub counts_in_place : List ℕ → (sm fs : List Float) → (side : ℕ) → (counts : Bool) → ℕ → Bool
 counts_in_place tk sm fs b counts s = ltb 0 (held_at tk (place_in b s)) && counted (candidate_at tk sm fs b s counts)
 
-abbrev pub key_or : Best → ℕ
-key_or Nobody = 0
-key_or (Token c) = key_of c
+abbrev pub key_or : Option Candidate → ℕ
+key_or None = 0
+key_or (Some c) = key_of c
 
 -- the key of a state whose token counts
 abbrev pub key_at : List ℕ → (sm fs : List Float) → (side : ℕ) → (counts : Bool) → ℕ → ℕ
@@ -115,13 +113,13 @@ state_of_lem : (s : ℕ) (t : Stored) (w : Float) (counts : Bool) → state_amon
 unfolding candidate_of
 state_of_lem s t w counts = go (finite (t.cost ⊕ w)) (record { state = s; link = t.link; seq = t.seq; rank = rank_in (t.cost ⊕ w) t.graph w counts; cost = t.cost ⊕ w }) refl
   where
-    go : (b : Bool) (c : Candidate) → c.state ≡ s → state_among (cond b (Token c) Nobody) ≡ cond (counted (cond b (Token c) Nobody)) (s ∷ []) []
+    go : (b : Bool) (c : Candidate) → c.state ≡ s → state_among (cond b (Some c) None) ≡ cond (counted (cond b (Some c) None)) (s ∷ []) []
     go true c e = ap (λ (i : ℕ). i ∷ []) e
     go false c e = refl
 
-keys_of : (best : Best) (f : ℕ → ℕ) (s : ℕ) → f s ≡ key_or best → key_in best ≡ map f (cond (counted best) (s ∷ []) [])
-keys_of Nobody f s e = refl
-keys_of (Token c) f s e = ap (λ (k : ℕ). k ∷ []) (sym e)
+keys_of : (best : Option Candidate) (f : ℕ → ℕ) (s : ℕ) → f s ≡ key_or best → key_in best ≡ map f (cond (counted best) (s ∷ []) [])
+keys_of None f s e = refl
+keys_of (Some c) f s e = ap (λ (k : ℕ). k ∷ []) (sym e)
 
 positive : (n : ℕ) → (n ≡ 0 → ⊥) → 0 < n
 positive zero f = absurd (f refl)
@@ -144,7 +142,7 @@ module _ {tk : List ℕ} {sm fs : List Float} {b : ℕ} {counts : Bool} where
       record { few = omega arith; keys_are = rw e l.keys_are; order_are = rw e l.order_are }
 
   -- a state with a token
-  pub listed_put : {s m r : ℕ} {keys keys' order order' : List ℕ} {best : Best} → (held_at tk (place_in b s) ≡ 0 → ⊥) → best ≡ candidate_at tk sm fs b s counts
+  pub listed_put : {s m r : ℕ} {keys keys' order order' : List ℕ} {best : Option Candidate} → (held_at tk (place_in b s) ≡ 0 → ⊥) → best ≡ candidate_at tk sm fs b s counts
       → Listed tk sm fs b counts s keys order m → Put keys keys' order order' m best r → Listed tk sm fs b counts (s + 1) keys' order' r
   listed_put {s} {m} {r} {keys} {keys'} {order} {order'} {best} d e l p =
       rw (add-one s) record {
@@ -153,7 +151,7 @@ module _ {tk : List ℕ} {sm fs : List Float} {b : ℕ} {counts : Bool} where
         order_are = p.order_are ∙ ap₂ (λ (xs ys : List ℕ). xs ++ ys) l.order_are (ap state_among e ∙ state_of_lem s (token_of (cell_at tk sm (place_in b s))) (weight_in fs s counts) counts ∙ ap (λ (x : Bool). cond x (s ∷ []) []) (sym (counts_active tk sm fs b counts s d)));
       }
     where
-      here_best : Best
+      here_best : Option Candidate
       here_best = candidate_at tk sm fs b s counts
 
       key : ℕ → ℕ

@@ -1,9 +1,9 @@
 -- The walk that lists the states whose tokens count. Assumes nothing.
-use Rattle.std.specs.Prelude.{◌≡◌, refl, ℕ, ◌+◌, ◌≤◌, ◌<◌, Bool, List, Float}
+use Rattle.std.specs.Prelude.{◌≡◌, refl, ℕ, ◌+◌, ◌≤◌, ◌<◌, Bool, List, Float, Option}
 use Rattle.std.proofs.Common.{sym, ◌∙◌, subst, arith}
 use Rattle.tokens.specs.Layout.{held_at, place_in, NextActive}
 use Rattle.sorting.specs.Moves.{Kept, kept_then}
-use Rattle.traceback.specs.declared.Best.{Best}
+use Rattle.traceback.specs.declared.Candidate.{Candidate}
 use Rattle.traceback.specs.Ranks.{candidate_at}
 use Rattle.ranking.specs.Listed.{PutAsks, Put, Listed, listed_none, listed_skip, listed_put}
 use Rattle.ranking.specs.Ranked.{RankAsks}
@@ -23,7 +23,7 @@ module _ {tk : List ℕ} {sm fs : List Float} {b n : ℕ} {counts : Bool} {keys 
     pub listing_done : n ≤ s → Listed tk sm fs b counts n keys' order' m
     listing_done l = let u = w.upto in subst (λ (i : ℕ). Listed tk sm fs b counts i keys' order' m) (omega arith) w.listed
 
-    module _ {best : Best} (e : best ≡ candidate_at tk sm fs b s counts) (l : s < n) where
+    module _ {best : Option Candidate} (e : best ≡ candidate_at tk sm fs b s counts) (l : s < n) where
       pub listing_asks : RankAsks tk sm fs b n counts keys order → PutAsks keys' order' m best
       listing_asks a =
           let f = w.listed.few in

@@ -1,5 +1,5 @@
 -- What the ranking asks and leaves: the states of the tokens that count, best first.
-use Rattle.std.specs.Prelude.{◌≡◌, ℕ, ◌*◌, ◌≤◌, ◌<◌, Bool, not, cond, List, map, pos, T, length, get_or, take, Float}
+use Rattle.std.specs.Prelude.{◌≡◌, ℕ, ◌*◌, ◌≤◌, ◌<◌, Bool, not, cond, List, map, pos, T, length, get_or, take, Float, Some}
 use Rattle.std.proofs.Math.Option.{Option, none, some}
 use Rattle.std.specs.Float.Ieee.{is_nan}
 use Rattle.lists.specs.Lists.{◌∈◌, sort_by}
@@ -11,7 +11,6 @@ use Rattle.tokens.specs.Layout.{held_at, place_in}
 use Rattle.records.specs.History.{History}
 use Rattle.stores.specs.Shown.{Shown}
 use Rattle.traceback.specs.declared.Candidate.{Candidate}
-use Rattle.traceback.specs.declared.Best.TheVariants.{Token as TokenOf}
 use Rattle.traceback.specs.Ranks.{candidate_at}
 
 -- the token, where there is one
@@ -31,7 +30,7 @@ pub record RankAsks (tk : List ℕ) (sm fs : List Float) (b n : ℕ) (counts : B
   pub finals : n ≤ length fs
   pub keys_long : n ≤ length keys
   pub order_long : n ≤ length order
-  pub known : (s : ℕ) → s < n → (held_at tk (place_in b s) ≡ 0 → ⊥) → (c : Candidate) → candidate_at tk sm fs b s counts ≡ TokenOf c → T (not (is_nan c.rank))
+  pub known : (s : ℕ) → s < n → (held_at tk (place_in b s) ≡ 0 → ⊥) → (c : Candidate) → candidate_at tk sm fs b s counts ≡ Some c → T (not (is_nan c.rank))
 
 pub record RankedIs (tk : List ℕ) (sm fs : List Float) (b n : ℕ) (counts : Bool) (order : List ℕ) (m : ℕ) : Type 0 where
   pub few : m ≤ n

@@ -1,5 +1,5 @@
 -- The listed states, sorted by key, are the definition's tokens, best first. Assumes nothing.
-use Rattle.std.specs.Prelude.{◌≡◌, refl, ℕ, zero, suc, ◌+◌, ◌*◌, ◌^◌, ◌≤◌, ◌<◌, Bool, false, T, ltb, length, take, Float}
+use Rattle.std.specs.Prelude.{◌≡◌, refl, ℕ, zero, suc, ◌+◌, ◌*◌, ◌^◌, ◌≤◌, ◌<◌, Bool, false, T, ltb, length, take, Float, Option as RustOption, Some, None}
 use Rattle.std.proofs.Math.Path.{sym, ap, ap₂, subst}
 use Rattle.std.proofs.Common.{◌∙◌, arith}
 use Rattle.std.proofs.Math.Bool.{true, cond}
@@ -28,8 +28,6 @@ use Rattle.sorting.specs.Moves.{Lent, Kept}
 use Rattle.sorting.specs.Sorting.{Sorted}
 use Rattle.sorting.specs.Keyed.{sorted_keyed}
 use Rattle.traceback.specs.declared.Candidate.{Candidate}
-use Rattle.traceback.specs.declared.Best.{Best}
-use Rattle.traceback.specs.declared.Best.TheVariants.{Nobody, Token}
 use Rattle.traceback.specs.Ranks.{weight_in, rank_in, candidate_of, candidate_at, CandidateIs}
 use Rattle.traceback.specs.Ranking.{candidate_is, tests_same, weight_is}
 use Rattle.ranking.specs.Keys.{Keyed, keys_compare}
@@ -42,15 +40,15 @@ rank_fits : (c graph w : Float) (counts : Bool) → T (fits binary32 c) → T (f
 rank_fits c graph w counts f = cond-fits binary32 counts _ c (sub-fits binary32 c _) f
 
 -- a rank of f32 and a seq of u32
-abbrev Fitting : Best → Type 0
-Fitting Nobody = Unit {0}
-Fitting (Token c) = T (fits binary32 c.rank) × (c.seq < 2 ^ 32)
+abbrev Fitting : RustOption Candidate → Type 0
+Fitting None = Unit {0}
+Fitting (Some c) = T (fits binary32 c.rank) × (c.seq < 2 ^ 32)
 
 candidate_fits : (s : ℕ) (t : Stored) (w : Float) (counts : Bool) → t.seq < 2 ^ 32 → Fitting (candidate_of s t w counts)
 unfolding candidate_of
 candidate_fits s t w counts l = go (finite (t.cost ⊕ w)) (record { state = s; link = t.link; seq = t.seq; rank = rank_in (t.cost ⊕ w) t.graph w counts; cost = t.cost ⊕ w }) (rank_fits (t.cost ⊕ w) t.graph w counts (add-fits binary32 t.cost w)) l
   where
-    go : (b : Bool) (c : Candidate) → T (fits binary32 c.rank) → c.seq < 2 ^ 32 → Fitting (cond b (Token c) Nobody)
+    go : (b : Bool) (c : Candidate) → T (fits binary32 c.rank) → c.seq < 2 ^ 32 → Fitting (cond b (Some c) None)
     go true c f l = (f, l)
     go false c f l = tt
 
@@ -61,7 +59,7 @@ module _ {h : ℕ → History} {used : ℕ} {tk : List ℕ} {sm fs : List Float}
     token : Model
     there : get_or ts s none ≡ some token
     candidate : Candidate
-    is : candidate_at tk sm fs b s counts ≡ cond (finite (ranked_at g counts ts s).cost) (Token candidate) Nobody
+    is : candidate_at tk sm fs b s counts ≡ cond (finite (ranked_at g counts ts s).cost) (Some candidate) None
     same : CandidateIs h used n ts candidate (ranked_at g counts ts s)
 
   at_active : (s : ℕ) → s < n → (held_at tk (place_in b s) ≡ 0 → ⊥) → At s
@@ -76,7 +74,7 @@ module _ {h : ℕ → History} {used : ℕ} {tk : List ℕ} {sm fs : List Float}
         there = a.at;
         candidate = record { state = s; link = y.link; seq = y.seq; rank = rank_in (y.cost ⊕ x) y.graph x counts; cost = y.cost ⊕ x };
         is = ap₂ (λ (t : Stored) (u : Float). candidate_of s t u counts) (stored_is w a) (weight_is g fs s counts q (omega arith))
-            ∙ ap (λ (c : Float). cond (finite c) (Token (record { state = s; link = y.link; seq = y.seq; rank = rank_in (y.cost ⊕ x) y.graph x counts; cost = y.cost ⊕ x })) Nobody) (ap (λ (c : Float). c ⊕ x) a.is.cost ∙ ap (λ (v : Ranked). v.cost) (sym r));
+            ∙ ap (λ (c : Float). cond (finite c) (Some (record { state = s; link = y.link; seq = y.seq; rank = rank_in (y.cost ⊕ x) y.graph x counts; cost = y.cost ⊕ x })) None) (ap (λ (c : Float). c ⊕ x) a.is.cost ∙ ap (λ (v : Ranked). v.cost) (sym r));
         same = rw r (candidate_is h used n ts s l y a.token a.at a.is x counts);
       }
 
@@ -86,7 +84,7 @@ module _ {h : ℕ → History} {used : ℕ} {tk : List ℕ} {sm fs : List Float}
   abbrev passes : ℕ → Bool
   passes = counts_in_place tk sm fs b counts
 
-  counted_if : (f : Bool) (c : Candidate) → counted (cond f (Token c) Nobody) ≡ f
+  counted_if : (f : Bool) (c : Candidate) → counted (cond f (Some c) None) ≡ f
   counted_if true c = refl
   counted_if false c = refl
 
@@ -131,7 +129,7 @@ module _ {h : ℕ → History} {used : ℕ} {tk : List ℕ} {sm fs : List Float}
   module _ {keys order : List ℕ} (asks : RankAsks tk sm fs b n counts keys order) (small : (i : ℕ) → get_or tk i 0 < 2 ^ 32) where
     record Counts (s : ℕ) : Type 0 where
       candidate : Candidate
-      is : candidate_at tk sm fs b s counts ≡ Token candidate
+      is : candidate_at tk sm fs b s counts ≡ Some candidate
       same : CandidateIs h used n ts candidate (stands s)
       keyed : Keyed candidate
 
@@ -143,15 +141,15 @@ module _ {h : ℕ → History} {used : ℕ} {tk : List ℕ} {sm fs : List Float}
         let d = some_held (held_at tk (place_in b s)) x in
         let a = at_active s l d in
         let f : finite (stands s).cost ≡ true = sym (counted_if (finite (stands s).cost) a.candidate) ∙ sym (ap counted a.is) ∙ y in
-        let i : candidate_at tk sm fs b s counts ≡ Token a.candidate = a.is ∙ ap (λ (z : Bool). cond z (Token a.candidate) Nobody) f in
-        let k : Fitting (Token a.candidate) = subst Fitting i (candidate_fits s (token_of (cell_at tk sm (place_in b s))) (weight_in fs s counts) counts (small (place_in b s * 4 + 1))) in
+        let i : candidate_at tk sm fs b s counts ≡ Some a.candidate = a.is ∙ ap (λ (z : Bool). cond z (Some a.candidate) None) f in
+        let k : Fitting (Some a.candidate) = subst Fitting i (candidate_fits s (token_of (cell_at tk sm (place_in b s))) (weight_in fs s counts) counts (small (place_in b s * 4 + 1))) in
         record { candidate = a.candidate; is = i; same = a.same; keyed = record { rank_fits = k.0; rank_known = asks.known s l d a.candidate i; seq_fits = k.1 } }
 
     compares : (i j : ℕ) → i ∈ below passes n → j ∈ below passes n → sooner (stands i) (stands j) ≡ ltb (key_at tk sm fs b counts i) (key_at tk sm fs b counts j)
     compares i j m k =
         let x = counts_at i m in
         let y = counts_at j k in
-        sym (tests_same h used n ts y.candidate x.candidate (stands j) (stands i) y.same x.same) ∙ keys_compare x.candidate y.candidate x.keyed y.keyed ∙ ap₂ (λ (p q : Best). ltb (key_or p) (key_or q)) (sym x.is) (sym y.is)
+        sym (tests_same h used n ts y.candidate x.candidate (stands j) (stands i) y.same x.same) ∙ keys_compare x.candidate y.candidate x.keyed y.keyed ∙ ap₂ (λ (p q : RustOption Candidate). ltb (key_or p) (key_or q)) (sym x.is) (sym y.is)
 
 -- ---- the listed states, sorted
 

@@ -3,29 +3,29 @@
 
 ghost use Rattle.std.specs.Prelude.{◌≡◌, not, T};
 ghost use Rattle.std.specs.Float.Ieee.{is_nan};
-ghost use Rattle.ranking.specs.Keys.{key_of};
+ghost use Rattle.ranking.specs.Keys.{key_of_rank};
 ghost use Rattle.ranking.specs.Listed.{PutAsks, Put, Listed};
 ghost use Rattle.ranking.specs.Ranked.{RankAsks, RankedIs};
 
-use traceback::{Best, Candidate, candidate_at};
+use traceback::{Candidate, candidate_at};
 
-// A lower rank comes first, and of equal ranks the larger seq.
-fn rank_key(c: Candidate) -> u64
-    requires { T (not (is_nan c.rank)) }
-    ensures { result ≡ key_of c }
+// A key for each rank and seq, the smaller for what comes first: a lower rank does, and of equal ranks the larger seq.
+pub fn key_of_rank(rank: f32, seq: u32) -> u64
+    requires { T (not (is_nan rank)) }
+    ensures { result ≡ key_of_rank rank seq }
 {
-    sorting::order_key(c.rank) as u64 * 0x1_0000_0000 + (0xffff_ffff - c.seq) as u64
+    u64::from(sorting::order_key(rank)) * 0x1_0000_0000 + u64::from(u32::MAX - seq)
 }
 
 // Puts a token that counts behind the first n.
-fn put_ranked(keys: &mut [u64], order: &mut [u32], n: usize, best: Best) -> usize
+fn put_ranked(keys: &mut [u64], order: &mut [u32], n: usize, best: Option<Candidate>) -> usize
     requires { PutAsks keys.old order.old n best }
     ensures { Put keys.old keys.new order.old order.new n best result }
 {
     match best {
-        Best::Nobody => n,
-        Best::Token(c) => {
-            keys[n] = rank_key(c);
+        None => n,
+        Some(c) => {
+            keys[n] = key_of_rank(c.rank, c.seq);
             order[n] = c.state;
             n + 1
         }
@@ -46,7 +46,7 @@ fn rank_all(
     requires { RankAsks tokens.now sums.now finals.now side states counts keys.old order.old }
     ensures { Listed tokens.now sums.now finals.now side counts states keys.new order.new result }
 {
-    let mut n: usize = 0;
+    let mut n = 0;
     let mut s = tokens::next_active(tokens, side, 0, states);
     while s < states {
         n = put_ranked(

@@ -1,5 +1,5 @@
 -- What is written is the definition's answer. Assumes nothing.
-use Rattle.std.specs.Prelude.{◌≡◌, refl, ℕ, zero, suc, ◌+◌, ◌-◌, ◌≤◌, ◌<◌, Bool, true, false, ◌||◌, cond, List, [], ◌∷◌, ◌++◌, map, ℤ, get_or, take, Float}
+use Rattle.std.specs.Prelude.{◌≡◌, refl, ℕ, zero, suc, ◌+◌, ◌≤◌, ◌<◌, Bool, true, false, ◌||◌, cond, List, [], ◌∷◌, ◌++◌, map, ℤ, get_or, take, Float, Ok}
 use Rattle.std.proofs.Common.{sym, ◌∙◌, subst, arith, add-zero, length-take-le, get_or-take, take_all, lt-ltb, le-ltb}
 use Rattle.std.proofs.Math.Path.{ap, ap₂}
 use Rattle.std.proofs.Math.Option.{Option}
@@ -22,7 +22,6 @@ use Rattle.traceback.specs.Write.{flat}
 use Rattle.readings.specs.Paths.{lesser_of, frames_in, phones_in, front, all_words, all_frames, all_segments, Plain, Plains}
 use Rattle.listing_laws.specs.Situation.{Situation}
 use Rattle.listing.specs.Listed.{overfull, ListIs}
-use Rattle.reading_list.specs.declared.ReadingList.TheVariants.{Readings}
 use Rattle.reading_list.specs.Outputs.{Outputs, places_in, words_of as output_words, numbers_of, costs_of as output_costs, Traces, Phones}
 use Rattle.reading_list.specs.Right.{Agree, Filled as Holds, ReadingsAre, readings_listed, StoresHold}
 use Rattle.reading_list.specs.Lines.{Line, lines_by, tolds_in, View, view, line_in, lines_in, numbers_from, costs_of, Filled}
@@ -229,5 +228,5 @@ module _ {tk : List ℕ} {sm fs : List Float} {rs : List ℕ} {ls : List ℤ} {g
           costs = f.costs ∙ ap (front o.costs) (lines_costs lines);
         }
 
-    pub readings_are_listed : {a : Answer} → a ≡ readings_answer (map reading_for lines) (tolds_in (take max lines)) → ReadingsAre a max o o' (Readings k)
-    readings_are_listed {a} e = subst (λ (j : ℕ). ReadingsAre a max o o' (Readings j)) (length-map lines reading_for ∙ as_many) (readings_listed (map reading_for lines) (tolds_in (take max lines)) e agree holds)
+    pub readings_are_listed : {a : Answer} → a ≡ readings_answer (map reading_for lines) (tolds_in (take max lines)) → ReadingsAre a max o o' (Ok k)
+    readings_are_listed {a} e = subst (λ (j : ℕ). ReadingsAre a max o o' (Ok j)) (length-map lines reading_for ∙ as_many) (readings_listed (map reading_for lines) (tolds_in (take max lines)) e agree holds)

@@ -1,5 +1,5 @@
 -- What is read back from filled slices: the readings of the lines, and the traces of the first of them. Assumes nothing.
-use Rattle.std.specs.Prelude.{◌≡◌, refl, ℕ, zero, suc, ◌+◌, ◌-◌, ◌*◌, List, [], ◌∷◌, ◌++◌, map, ℤ, pos, nat_abs, length, get_or, take, drop, Float}
+use Rattle.std.specs.Prelude.{◌≡◌, refl, ℕ, zero, suc, ◌+◌, ◌-◌, ◌*◌, List, [], ◌∷◌, ◌++◌, map, ℤ, pos, nat_abs, length, get_or, take, drop, Float, Result, Ok}
 use Rattle.std.proofs.Common.{sym, ◌∙◌, ap, ap₂, subst, arith, add-zero, append_assoc, length-append, take-append-drop, take_at, drop_at, get_or-append-add}
 use Rattle.std.proofs.lemmas.List.{map-append, length-map}
 use Rattle.std.specs.Float.{nan}
@@ -10,12 +10,11 @@ use Rattle.traceback.specs.Write.{flat}
 use Rattle.traceback.specs.Right.{segments_in}
 use Rattle.readings.specs.Paths.{words_in, frames_in, phones_in, front, all_words, all_frames, all_segments, Plain, Plains}
 use Rattle.readings.specs.Fronts.{words_long, frames_long, segments_long, frames-sum, words-sum}
-use Rattle.reading_list.specs.declared.ReadingList.{ReadingList}
-use Rattle.reading_list.specs.declared.ReadingList.TheVariants.{Readings}
 use Rattle.reading_list.specs.Outputs.{Outputs, words_of, numbers_of, costs_of as output_costs, Traces, Phones, words_end, segments_end, reading_at, trace_at, readings_in, traces_in}
 use Rattle.reading_list.specs.Right.{list_as, Filled as Holds, ReadingsAre, readings_refused, readings_listed}
 use Rattle.reading_list.specs.Lines.{Line, tolds_in, numbers_from, costs_of, Filled}
 use Rattle.reading_list.specs.Fronts.{tolds_more, numbers_long, costs_long, numbers-append, costs-append}
+use Rattle.refusals.specs.declared.Reason.{Reason}
 
 -- ---- parts
 
@@ -289,10 +288,10 @@ module _ {rs : List Reading} {ts : List Told} {o o' : Outputs} (h : Traces ts rs
       ∙ filled_traces (take n xs) (drop n xs) (subst (λ (l : List Line). Filled l o o') (sym (take-append-drop n xs)) lines_filled) (subst Plains (sym e) p) ∙ e
 
 -- what was listed is read back
-pub list_back : {a : Answer} {max : ℕ} {o o' : Outputs} {r : ReadingList} → ReadingsAre a max o o' r → list_as max r o' ≡ a
+pub list_back : {a : Answer} {max : ℕ} {o o' : Outputs} {r : Result ℕ Reason} → ReadingsAre a max o o' r → list_as max r o' ≡ a
 list_back (readings_refused n e q) = sym e
 list_back {o' = o'} (readings_listed rs ts e g f) = ap₂ readings_answer (held_readings g.traces f g.phones) (ap (λ (k : ℕ). traces_in k o') (sym g.many) ∙ held_traces g.traces f g.plains) ∙ sym e
 
 -- no reading is counted that the answer does not have
-pub list_count : {rs : List Reading} {ts : List Told} {max : ℕ} {o o' : Outputs} {k : ℕ} → ReadingsAre (readings_answer rs ts) max o o' (Readings k) → k ≡ length rs
+pub list_count : {rs : List Reading} {ts : List Told} {max : ℕ} {o o' : Outputs} {k : ℕ} → ReadingsAre (readings_answer rs ts) max o o' (Ok k) → k ≡ length rs
 list_count {rs} (readings_listed qs us e g f) = let q : qs ≡ rs = cc in ap length q

@@ -1,8 +1,7 @@
 -- What an item of the list is read as, and what its path asks.
-use Rattle.std.specs.Prelude.{ℕ, ◌+◌, ◌-◌, ◌*◌, ◌≤◌, ◌<◌, Bool, cond, List, ℤ, ltb, length, Float}
+use Rattle.std.specs.Prelude.{ℕ, ◌+◌, ◌-◌, ◌*◌, ◌≤◌, ◌<◌, Bool, cond, List, ℤ, ltb, length, Float, Option, Some, None}
 use Rattle.model.specs.Basics.{0f}
-use Rattle.traceback.specs.declared.Best.{Best}
-use Rattle.traceback.specs.declared.Best.TheVariants.{Nobody, Token}
+use Rattle.traceback.specs.declared.Candidate.{Candidate}
 use Rattle.traceback.specs.Ranks.{candidate_at}
 use Rattle.traceback.specs.Trail.{Trail, no_trail}
 use Rattle.traceback.specs.Chain.{Walkable, trail_from}
@@ -13,9 +12,9 @@ use Rattle.routes.specs.Entries.{joins_of, RouteAsks}
 use Rattle.merged.specs.Items.{OwnAsks}
 use Rattle.reading_list.specs.declared.Reading.{Reading}
 
-abbrev pub own_reading : Best → Reading
-own_reading Nobody = record { state = 0; entry = 0; rank = 0f; cost = 0f }
-own_reading (Token c) = record { state = c.state; entry = 0; rank = c.rank; cost = c.cost }
+abbrev pub own_reading : Option Candidate → Reading
+own_reading None = record { state = 0; entry = 0; rank = 0f; cost = 0f }
+own_reading (Some c) = record { state = c.state; entry = 0; rank = c.rank; cost = c.cost }
 
 abbrev pub kept_reading : KeptReading → Reading
 kept_reading k = record { state = k.state; entry = k.entry; rank = k.rank; cost = k.cost }

@@ -1,5 +1,5 @@
 -- The readings of the list one after another in the lent slices: what is written of each, and what writing them asks and leaves.
-use Rattle.std.specs.Prelude.{◌≡◌, ℕ, zero, suc, ◌+◌, ◌*◌, ◌≤◌, ◌<◌, Bool, true, false, ◌||◌, cond, List, [], ◌∷◌, map, ℤ, ltb, length, get_or, take, Float}
+use Rattle.std.specs.Prelude.{◌≡◌, ℕ, zero, suc, ◌+◌, ◌*◌, ◌≤◌, ◌<◌, Bool, true, false, ◌||◌, cond, List, [], ◌∷◌, map, ℤ, ltb, length, get_or, take, Float, Result, Ok, Err}
 use Rattle.std.proofs.lemmas.List.Edits.{sets}
 use Rattle.model.specs.Reads.{Traced as Told}
 use Rattle.model.specs.Calls.{short, words_of}
@@ -12,10 +12,10 @@ use Rattle.routes.specs.Entries.{joins_of}
 use Rattle.readings.specs.Paths.{words_in, frames_in, phones_in, front, all_words, all_frames, all_segments}
 use Rattle.reading_list.specs.declared.Reading.{Reading}
 use Rattle.reading_list.specs.declared.Totals.{Totals}
-use Rattle.reading_list.specs.declared.ReadingList.{ReadingList}
-use Rattle.reading_list.specs.declared.ReadingList.TheVariants.{Refused, Readings}
 use Rattle.reading_list.specs.Outputs.{Outputs, places_in}
 use Rattle.reading_list.specs.Items.{item_reading, ItemAsks, trail_of, PathAsks}
+use Rattle.refusals.specs.declared.Reason.{Reason}
+use Rattle.refusals.specs.declared.Reason.TheVariants.{TooShort}
 
 -- ---- what is written of a reading
 
@@ -190,6 +190,6 @@ pub record WriteAsks (v : View) (max : ℕ) (list : List ℕ) (k : ℕ) (route :
   pub room : RoomFor (lines_in v max list k) o
 
 -- 11 and nothing written, or all of them
-pub data ListWritten (v : View) (max : ℕ) (list : List ℕ) (k : ℕ) (o o' : Outputs) : ReadingList → Type 0 where
-  no_room : short (places_in o) (words_of (tolds_in (lines_in v max list k))) (tolds_in (lines_in v max list k)) k ≡ true → o' ≡ o → ListWritten v max list k o o' (Refused 11)
-  are_written : short (places_in o) (words_of (tolds_in (lines_in v max list k))) (tolds_in (lines_in v max list k)) k ≡ false → Filled (lines_in v max list k) o o' → ListWritten v max list k o o' (Readings k)
+pub data ListWritten (v : View) (max : ℕ) (list : List ℕ) (k : ℕ) (o o' : Outputs) : Result ℕ Reason → Type 0 where
+  no_room : short (places_in o) (words_of (tolds_in (lines_in v max list k))) (tolds_in (lines_in v max list k)) k ≡ true → o' ≡ o → ListWritten v max list k o o' (Err TooShort)
+  are_written : short (places_in o) (words_of (tolds_in (lines_in v max list k))) (tolds_in (lines_in v max list k)) k ≡ false → Filled (lines_in v max list k) o o' → ListWritten v max list k o o' (Ok k)

@@ -1,6 +1,6 @@
 -- The read as a whole: what its steps ask, and each way out. Assumes nothing.
-use Rattle.std.specs.Prelude.{◌≡◌, ℕ, ◌+◌, ◌*◌, ◌≤◌, ◌<◌, Bool, true, false, ◌||◌, List, [], ◌∷◌, map, ℤ, ltb, length, Float}
-use Rattle.std.proofs.Math.Path.{refl, ap₂}
+use Rattle.std.specs.Prelude.{◌≡◌, ℕ, ◌+◌, ◌*◌, ◌≤◌, ◌<◌, Bool, true, false, ◌||◌, List, [], ◌∷◌, map, ℤ, ltb, length, Float, Result, Ok, Err}
+use Rattle.std.proofs.Math.Path.{refl, sym, ap₂}
 use Rattle.std.proofs.Common.{◌∙◌, ap, subst, arith, lt-ltb, le-ltb}
 use Rattle.std.proofs.Math.Option.{Option}
 use Rattle.model.specs.Basics.{refuse, first_of, over}
@@ -9,16 +9,14 @@ use Rattle.model.specs.Readings.{readings}
 use Rattle.model.specs.Calls.{readings_answer, reading_of, short, unless, read_readings}
 use Rattle.traceback.specs.Table.{FinalsCount}
 use Rattle.listing_laws.specs.Situation.{Situation}
-use Rattle.listing.specs.declared.Listing.{Listing}
-use Rattle.listing.specs.declared.Listing.TheVariants.{Full, Items}
 use Rattle.listing.specs.Listed.{Scratch, ListingAsks, overfull, ListIs, ListingIs, is_full, are_items}
-use Rattle.reading_list.specs.declared.ReadingList.{ReadingList}
-use Rattle.reading_list.specs.declared.ReadingList.TheVariants.{Refused}
 use Rattle.reading_list.specs.Outputs.{Outputs, places_in}
 use Rattle.reading_list.specs.Right.{readings_refused, ReadingsRight}
 use Rattle.reading_list.specs.Lines.{view, ListAsks, ListWritten, no_room, are_written}
 use Rattle.reading_list.specs.Groups.{link_is, even_is, item_is}
 use Rattle.reading_list.specs.Answers.{answer_is, readings_are_listed}
+use Rattle.refusals.specs.declared.Reason.{Reason}
+use Rattle.refusals.specs.declared.Reason.TheVariants.{BadSetting, TooShort, ListsFull}
 
 -- what has two places for each record has one
 pub count_places : {n a b : ℕ} → n * 2 ≤ a → b ≡ a → n ≤ b
@@ -27,9 +25,9 @@ count_places l e = omega arith
 -- ---- more than 64
 
 module _ {tk : List ℕ} {sm fs : List Float} {rs : List ℕ} {ls : List ℤ} {gs : List Float} {n b used : ℕ} {keeps : Bool} {margin : Float} {decoded : ℕ} {use_final : Bool} {listed max entries kept : ℕ} {o : Outputs} where
-  pub too_many_lem : (ltb 64 listed || ltb 64 max) ≡ true → ReadingsRight tk sm fs rs ls gs n b used keeps margin decoded use_final listed max entries kept o o (Refused 6)
+  pub too_many_lem : (ltb 64 listed || ltb 64 max) ≡ true → ReadingsRight tk sm fs rs ls gs n b used keeps margin decoded use_final listed max entries kept o o (Err BadSetting)
   unfolding read_readings
-  too_many_lem e = record { answer = λ S q l h. readings_refused 6 (rw e) refl }
+  too_many_lem e = record { answer = λ S q l h. readings_refused BadSetting (rw e) refl }
 
 pub many_listed : (listed max : ℕ) → 64 < listed → (ltb 64 listed || ltb 64 max) ≡ true
 many_listed listed max l = ap (λ (x : Bool). x || ltb 64 max) (lt-ltb 64 listed l)
@@ -53,29 +51,29 @@ counts_are : {tk : List ℕ} {sm fs : List Float} {rs : List ℕ} {ls : List ℤ
 counts_are {sm = sm} {used = used} counted S = counted.is sm S.g S.finals S.h used S.st S.shown
 
 module _ {tk : List ℕ} {sm fs : List Float} {rs : List ℕ} {ls : List ℤ} {gs : List Float} {n b used : ℕ} {keeps : Bool} {margin : Float} {counts : Bool} {listed entries kept : ℕ} {hs ns : List ℕ} {xs : List Float} {khs kns : List ℕ} {kxs : List Float} {list : List ℕ} where
-  pub items_of : {r : Listing} {k : ℕ} → ListingIs tk sm fs rs ls gs n b used keeps margin counts listed entries kept hs ns xs khs kns kxs list r → r ≡ Items k → ItemsAre tk sm fs rs ls gs n b used keeps margin counts listed entries kept hs ns xs khs kns kxs list k
-  items_of (is_full d) e = let z : ◌≡◌ {A = ℕ} 0 1 = cc in absurd (omega arith)
-  items_of {k = k} (are_items j long few is) e =
-      let q : j ≡ k = cc in
-      subst (ItemsAre tk sm fs rs ls gs n b used keeps margin counts listed entries kept hs ns xs khs kns kxs list) q (record { long = long; few = few; is = is })
+  pub items_of : {k : ℕ} → ListingIs tk sm fs rs ls gs n b used keeps margin counts listed entries kept hs ns xs khs kns kxs list (Ok k) → ItemsAre tk sm fs rs ls gs n b used keeps margin counts listed entries kept hs ns xs khs kns kxs list k
+  items_of (are_items k long few is) = record { long = long; few = few; is = is }
 
-  full_of : {r : Listing} → ListingIs tk sm fs rs ls gs n b used keeps margin counts listed entries kept hs ns xs khs kns kxs list r → r ≡ Full
+  full_of : {e : Reason} → ListingIs tk sm fs rs ls gs n b used keeps margin counts listed entries kept hs ns xs khs kns kxs list (Err e)
       → (S : Situation tk sm fs rs ls gs n b used keeps margin) (use_final : Bool) → counts ≡ use_finals S.g S.st use_final → overfull S use_final listed entries kept ≡ true
-  full_of (is_full d) e = d
-  full_of (are_items j long few is) e = let z : ◌≡◌ {A = ℕ} 0 1 = cc in absurd (omega arith)
+  full_of (is_full d) = d
+
+  -- it is refused for one reason
+  reason_of : {e : Reason} → ListingIs tk sm fs rs ls gs n b used keeps margin counts listed entries kept hs ns xs khs kns kxs list (Err e) → e ≡ ListsFull
+  reason_of (is_full d) = refl
 
   module _ {use_final : Bool} (counted : FinalsCount tk fs b n use_final counts) where
     -- a full store
-    pub read_full : {r : Listing} {max decoded : ℕ} {o : Outputs} → listed ≤ 64 → max ≤ 64 → ListingIs tk sm fs rs ls gs n b used keeps margin counts listed entries kept hs ns xs khs kns kxs list r → r ≡ Full
-        → ReadingsRight tk sm fs rs ls gs n b used keeps margin decoded use_final listed max entries kept o o (Refused 15)
+    pub read_full : {e : Reason} {max decoded : ℕ} {o : Outputs} → listed ≤ 64 → max ≤ 64 → ListingIs tk sm fs rs ls gs n b used keeps margin counts listed entries kept hs ns xs khs kns kxs list (Err e)
+        → ReadingsRight tk sm fs rs ls gs n b used keeps margin decoded use_final listed max entries kept o o (Err e)
     unfolding read_readings
-    read_full {max = max} {decoded} {o} m t is e =
-        record {
+    read_full {max = max} {decoded} {o} m t is =
+        subst (λ (x : Reason). ReadingsRight tk sm fs rs ls gs n b used keeps margin decoded use_final listed max entries kept o o (Err x)) (sym (reason_of is)) record {
           answer = λ S d l h.
               let r = readings S.g S.st use_final listed in
-              let full = ap₂ (λ (a c : Option ℕ). over r.belows a || over r.kepts c) h.below h.kept_are ∙ full_of is e S use_final (counts_are counted S) in
+              let full = ap₂ (λ (a c : Option ℕ). over r.belows a || over r.kepts c) h.below h.kept_are ∙ full_of is S use_final (counts_are counted S) in
               let small = not_many listed max m t in
-              readings_refused 15
+              readings_refused ListsFull
               (λ i. unless
               (first_of
               (refuse 6 (small i) ∷ refuse 15 (full i) ∷ refuse 11 (short (places_in o) (map (λ (g : Group). g.words) r.groups) (trace_groups S.st max r.groups) (length r.groups)) ∷ []))
@@ -120,10 +118,10 @@ module _ {tk : List ℕ} {sm fs : List Float} {rs : List ℕ} {ls : List ℤ} {g
           }
 
       -- the list, or slices that are too short for it
-      pub read_right : {z : Scratch} → ListingAsks tk sm fs rs ls gs n b used keeps margin kept z → {max decoded : ℕ} → listed ≤ 64 → max ≤ 64 → {o o' : Outputs} {r : ReadingList} → ListWritten (view tk sm fs rs ls ns khs kns kxs b used decoded counts) max list k o o' r
+      pub read_right : {z : Scratch} → ListingAsks tk sm fs rs ls gs n b used keeps margin kept z → {max decoded : ℕ} → listed ≤ 64 → max ≤ 64 → {o o' : Outputs} {r : Result ℕ Reason} → ListWritten (view tk sm fs rs ls ns khs kns kxs b used decoded counts) max list k o o' r
           → ReadingsRight tk sm fs rs ls gs n b used keeps margin decoded use_final listed max entries kept o o' r
       read_right asks {max} {decoded} m t {o} {o'} (no_room e q) =
-          record { answer = λ S d l h. readings_refused 11 (answer_is S (list_of S) items.long decoded max d l h o (not_many listed max m t) (items.is S use_final (counts_are counted S)).0 e) q }
+          record { answer = λ S d l h. readings_refused TooShort (answer_is S (list_of S) items.long decoded max d l h o (not_many listed max m t) (items.is S use_final (counts_are counted S)).0 e) q }
       read_right asks {max} {decoded} m t {o} {o'} (are_written e f) =
           record {
             answer = λ S d l h. readings_are_listed S (list_of S) items.long decoded max f (answer_is S (list_of S) items.long decoded max d l h o (not_many listed max m t) (items.is S use_final (counts_are counted S)).0 e);

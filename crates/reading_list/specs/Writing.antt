@@ -1,5 +1,5 @@
 -- The readings written so far. Assumes nothing.
-use Rattle.std.specs.Prelude.{◌≡◌, refl, ◌⊎◌, ℕ, ◌+◌, ◌/◌, ◌≤◌, ◌<◌, Bool, true, false, cond, List, [], ◌∷◌, ◌++◌, ltb, length, get_or}
+use Rattle.std.specs.Prelude.{◌≡◌, refl, ◌⊎◌, ℕ, ◌+◌, ◌/◌, ◌≤◌, ◌<◌, Bool, true, false, cond, List, [], ◌∷◌, ◌++◌, ltb, length, get_or, Ok, Err}
 use Rattle.std.proofs.Common.{sym, ◌∙◌, ap, subst, inl, inr, arith, ltb-true, le-ltb}
 use Rattle.lists.specs.Tests.{case, lt_or_le}
 use Rattle.model.specs.Reads.{Traced as Told}
@@ -9,11 +9,11 @@ use Rattle.readings.specs.Fronts.{words_long, frames_long, segments_long}
 use Rattle.readings.specs.Writing.{front_fits}
 use Rattle.reading_list.specs.declared.Reading.{Reading}
 use Rattle.reading_list.specs.declared.Totals.{Totals}
-use Rattle.reading_list.specs.declared.ReadingList.TheVariants.{Refused, Readings}
 use Rattle.reading_list.specs.Outputs.{Outputs, places_in}
 use Rattle.reading_list.specs.Lines.{View, Line, tolds_in, line_of, line_in, reading_in, trail_in, lines_in, ListAsks, totals_by, TotalsAre, too_short, numbers_from, costs_of, RoomFor, Filled, LineAsks, LinePut, WriteAsks, ListWritten, no_room, are_written}
 use Rattle.reading_list.specs.Fronts.{many_lines, fewer, numbers_long, costs_long, filled_none, filled_next}
 use Rattle.reading_list.specs.Totals.{path_again, even_upto, next_lines, words_next, phones_next, short_is, room_for}
+use Rattle.refusals.specs.declared.Reason.TheVariants.{TooShort}
 
 -- lengths stay
 pub record Long (o o' : Outputs) : Type 0 where
@@ -159,8 +159,8 @@ module _ {v : View} {max : ℕ} {list : List ℕ} {k : ℕ} {route : List ℕ} (
         room = room_for are asks.long o (sym tested ∙ e);
       }
 
-  pub list_refused : r ≡ true → ListWritten v max list k o o (Refused 11)
+  pub list_refused : r ≡ true → ListWritten v max list k o o (Err TooShort)
   list_refused e = no_room (short_told e) refl
 
-  pub list_written : {o' : Outputs} → r ≡ false → Filled (lines_in v max list k) o o' → ListWritten v max list k o o' (Readings k)
+  pub list_written : {o' : Outputs} → r ≡ false → Filled (lines_in v max list k) o o' → ListWritten v max list k o o' (Ok k)
   list_written e f = are_written (short_told e) f

@@ -17,9 +17,9 @@ ghost use Rattle.reading_list.specs.Items.{own_reading, kept_reading, item_readi
 ghost use Rattle.reading_list.specs.Lines.{view, line_of, lines_in, ListAsks, SizeFor, GrowAsks, grown_by, TotalsAre, too_short, BehindAsks, WrittenBehind, five_of, four_of, LineAsks, LinePut, WriteAsks, Filled, ListWritten};
 
 use kept_readings::KeptReading;
-use listing::Listing;
+use refusals::Reason;
 use tokens::Token;
-use traceback::{Best, Size};
+use traceback::{Candidate, Size};
 
 // A reading: the state of its token, the entry that its path goes on with below the token's newest join (0 for the token's own path), its rank and its cost.
 #[derive(Clone, Copy)]
@@ -30,17 +30,17 @@ struct Reading {
     cost: f32,
 }
 
-fn own_reading(best: Best) -> Reading
+fn own_reading(best: Option<Candidate>) -> Reading
     ensures { result ≡ own_reading best }
 {
     match best {
-        Best::Nobody => Reading {
+        None => Reading {
             state: 0,
             entry: 0,
             rank: 0.0,
             cost: 0.0,
         },
-        Best::Token(c) => Reading {
+        Some(c) => Reading {
             state: c.state,
             entry: 0,
             rank: c.rank,
@@ -104,7 +104,7 @@ fn measure_path(
     if traced {
         return traceback::measure(records, labels, route, used, n, link);
     }
-    if route.len() == 0 {
+    if route.is_empty() {
         return Size {
             words: routes::count_at(history_counts, link),
             segments: 0,
@@ -249,19 +249,11 @@ fn too_short(
 ) -> bool
     ensures { result ≡ too_short total k words frames segments numbers costs }
 {
-    if words < total.words {
-        return true;
-    }
-    if frames < total.traced {
-        return true;
-    }
-    if segments < total.segments {
-        return true;
-    }
-    if numbers < k {
-        return true;
-    }
-    costs < k
+    words < total.words
+        || frames < total.traced
+        || segments < total.segments
+        || numbers < k
+        || costs < k
 }
 
 // Writes the words of a path behind `w` words and where it is traced its frames too, and its segments behind `s` segments.
@@ -320,8 +312,8 @@ fn put_numbers(numbers: &mut [u64], i: usize, to: Totals, kept: usize, t: Token)
     numbers[i * 5] = to.words as u64;
     numbers[i * 5 + 1] = to.segments as u64;
     numbers[i * 5 + 2] = kept as u64;
-    numbers[i * 5 + 3] = t.phone as u64;
-    numbers[i * 5 + 4] = t.seq as u64;
+    numbers[i * 5 + 3] = u64::from(t.phone);
+    numbers[i * 5 + 4] = u64::from(t.seq);
 }
 
 // The costs of the i-th reading: its rank and its cost, and its token's cost and graph sum.
@@ -468,13 +460,6 @@ fn write_all(
     }
 }
 
-// A refusal (6, 15, 11), or how many readings were written.
-#[derive(Clone, Copy)]
-pub enum ReadingList {
-    Refused(u32),
-    Readings(usize),
-}
-
 // The k readings of the list: what is too short for the whole answer is refused before anything is written.
 fn write_list(
     tokens: &[u32],
@@ -501,7 +486,7 @@ fn write_list(
     segments: &mut [u32],
     numbers: &mut [u64],
     costs: &mut [f32],
-) -> ReadingList
+) -> Result<usize, Reason>
     requires { (ListAsks (view tokens.now sums.now finals.now records.now labels.now nexts.now kept_hashes.now kept_links.now kept_sums.now side used n counts) list.now k route.old) × (Skips records.now labels.now used used history_skips.now) × (Counts records.now labels.now used used history_counts.now) }
     ensures { ListWritten (view tokens.now sums.now finals.now records.now labels.now nexts.now kept_hashes.now kept_links.now kept_sums.now side used n counts) max list.now k (outputs words.old frames.old segments.old numbers.old costs.old) (outputs words.new frames.new segments.new numbers.new costs.new) result }
 {
@@ -535,7 +520,7 @@ fn write_list(
         numbers.len() / 5,
         costs.len() / 4,
     ) {
-        return ReadingList::Refused(refusals::TOO_SHORT);
+        return Err(Reason::TooShort);
     }
     write_all(
         tokens,
@@ -563,10 +548,10 @@ fn write_list(
         numbers,
         costs,
     );
-    ReadingList::Readings(k)
+    Ok(k)
 }
 
-// The Rust's `readings`, the first `max` of them traced.
+// The Rust's `readings`, the first `max` of them traced: how many were written. Refused as BadSetting, ListsFull or TooShort.
 pub fn readings(
     tokens: &[u32],
     sums: &[f32],
@@ -604,19 +589,19 @@ pub fn readings(
     segments: &mut [u32],
     numbers: &mut [u64],
     costs: &mut [f32],
-) -> ReadingList
+) -> Result<usize, Reason>
     requires { (ListingAsks tokens.now sums.now finals.now records.now labels.now gaps.now states side used keeps margin (kept_places (length kept_hashes.old) (length kept_links.old) (length kept_sums.old)) (scratch (length keys.old) (length places.old) (length own.old) (length heads.old) (length list.old) (length lists.old) (length route.old) (length order.old))) × (used * 2 ≤ length history_keys.old) × (used * 2 ≤ length history_skips.old) }
     ensures { (ReadingsRight tokens.now sums.now finals.now records.now labels.now gaps.now states side used keeps margin n use_final listed max (entry_places (length entry_hashes.old) (length entry_nexts.old) (length entry_sums.old)) (kept_places (length kept_hashes.old) (length kept_links.old) (length kept_sums.old)) (outputs words.old frames.old segments.old numbers.old costs.old) (outputs words.new frames.new segments.new numbers.new costs.new) result) × (Used ScratchLeft ((64 < listed) ⊎ (64 < max)) (worked keys.old places.old own.old heads.old list.old lists.old route.old history_keys.old history_skips.old entry_hashes.old entry_nexts.old entry_sums.old kept_hashes.old kept_links.old kept_sums.old order.old) (worked keys.new places.new own.new heads.new list.new lists.new route.new history_keys.new history_skips.new entry_hashes.new entry_nexts.new entry_sums.new kept_hashes.new kept_links.new kept_sums.new order.new)) }
 {
     if refusals::MAX_LISTED < listed {
-        return ReadingList::Refused(refusals::BAD_SETTING);
+        return Err(Reason::BadSetting);
     }
     if refusals::MAX_LISTED < max {
-        return ReadingList::Refused(refusals::BAD_SETTING);
+        return Err(Reason::BadSetting);
     }
     let counts = traceback::finals_count(tokens, finals, states, side, use_final);
     summaries::fill(records, labels, used, history_keys, history_skips);
-    match listing::list_readings(
+    let k = listing::list_readings(
         tokens,
         sums,
         finals,
@@ -646,37 +631,33 @@ pub fn readings(
         kept_links,
         kept_sums,
         order,
-    ) {
-        Listing::Full => ReadingList::Refused(refusals::LISTS_FULL),
-        Listing::Items(k) => {
-            // The keys are not needed any more.
-            routes::fill_counts(records, labels, used, history_keys);
-            write_list(
-                tokens,
-                sums,
-                finals,
-                records,
-                labels,
-                side,
-                used,
-                history_skips,
-                history_keys,
-                n,
-                counts,
-                entry_nexts,
-                kept_hashes,
-                kept_links,
-                kept_sums,
-                list,
-                k,
-                max,
-                route,
-                words,
-                frames,
-                segments,
-                numbers,
-                costs,
-            )
-        }
-    }
+    )?;
+    // The keys are not needed any more.
+    routes::fill_counts(records, labels, used, history_keys);
+    write_list(
+        tokens,
+        sums,
+        finals,
+        records,
+        labels,
+        side,
+        used,
+        history_skips,
+        history_keys,
+        n,
+        counts,
+        entry_nexts,
+        kept_hashes,
+        kept_links,
+        kept_sums,
+        list,
+        k,
+        max,
+        route,
+        words,
+        frames,
+        segments,
+        numbers,
+        costs,
+    )
 }

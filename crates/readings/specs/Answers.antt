@@ -1,5 +1,5 @@
 -- What is written is the definition's answer. Assumes nothing.
-use Rattle.std.specs.Prelude.{◌≡◌, refl, ℕ, suc, ◌+◌, ◌/◌, ◌≤◌, ◌<◌, Bool, true, false, ◌||◌, ℤ, length, get_or, take, drop, Float}
+use Rattle.std.specs.Prelude.{◌≡◌, refl, ℕ, suc, ◌+◌, ◌/◌, ◌≤◌, ◌<◌, Bool, true, false, ◌||◌, ℤ, length, get_or, take, drop, Float, Ok, Err}
 use Rattle.std.proofs.Math.Path.{sym, ap}
 use Rattle.std.proofs.Common.{◌∙◌, ap₂, subst, arith, div-add-mod', zero-add, length-append, drop_at, length-take-le, get_or-take, ltb-false, lt-ltb, le-ltb, ne_eqb}
 use mathlib.Core.List.{List, [], ◌∷◌, ◌++◌, map}
@@ -34,13 +34,13 @@ use Rattle.traceback.specs.Answers.{told_by, measured, told_written}
 use Rattle.traceback.specs.Best.{walkable_of}
 use Rattle.ranking.specs.Ranked.{RankAsks, RankedIs}
 use Rattle.groups.specs.Firsts.{link_at, dropped, StatesAsk}
-use Rattle.readings.specs.declared.Listed.TheVariants.{Refused, Paths}
 use Rattle.readings.specs.Paths.{cost_in, trail_at, tolds_of, lesser_of, sizes, too_short, FillAsks, TotalIs, Outputs, places_in, Plain, Plains, WriteAsks}
 use Rattle.readings.specs.Fronts.{flat-length}
 use Rattle.readings.specs.Back.{plains_even}
 use Rattle.readings.specs.Writing.{many_are}
 use Rattle.readings.specs.Right.{AlternativesAsk, StatesListed, Filled, ListedIs, listed_refused, listed_paths, AlternativesRight, Scratch, ScratchLeft}
 use Rattle.readings.specs.Grouping.{link_shown}
+use Rattle.refusals.specs.declared.Reason.TheVariants.{BadSetting, TooShort}
 
 -- ---- a path that is read as it was written
 
@@ -201,16 +201,16 @@ module _ {tk : List ℕ} {sm fs : List Float} {rs : List ℕ} {ls : List ℤ} {n
             → read_alternatives g st use_final max (places_in o) ≡ unless (first_of (refuse 6 false ∷ refuse 11 x ∷ [])) (paths_answer told_all)
         answer_by x e g q gs st u F = answer_is g q gs st u F ∙ ap₂ (λ (y z : Bool). unless (first_of (refuse 6 y ∷ refuse 11 z ∷ [])) (paths_answer told_all)) (le-ltb 64 max few) e
 
-        pub listed_short : too_short total k (places_in o) ≡ true → AlternativesRight tk sm fs rs ls n b used decoded use_final max o o (Refused 11)
-        listed_short e = record { answer = λ g q gs st u F. listed_refused 11 (answer_by true e g q gs st u F) refl }
+        pub listed_short : too_short total k (places_in o) ≡ true → AlternativesRight tk sm fs rs ls n b used decoded use_final max o o (Err TooShort)
+        listed_short e = record { answer = λ g q gs st u F. listed_refused TooShort (answer_by true e g q gs st u F) refl }
 
-        pub listed_written : {o' : Outputs} → too_short total k (places_in o) ≡ false → Filled told_all o o' → AlternativesRight tk sm fs rs ls n b used decoded use_final max o o' (Paths k)
+        pub listed_written : {o' : Outputs} → too_short total k (places_in o) ≡ false → Filled told_all o o' → AlternativesRight tk sm fs rs ls n b used decoded use_final max o o' (Ok k)
         listed_written {o'} e f =
-            record { answer = λ g q gs st u F. subst (λ (j : ℕ). ListedIs (read_alternatives g st use_final max (places_in o)) o o' (Paths j)) many (listed_paths told_all (answer_by false e g q gs st u F) plain_all f) }
+            record { answer = λ g q gs st u F. subst (λ (j : ℕ). ListedIs (read_alternatives g st use_final max (places_in o)) o o' (Ok j)) many (listed_paths told_all (answer_by false e g q gs st u F) plain_all f) }
 
-pub listed_many : {tk : List ℕ} {sm fs : List Float} {rs : List ℕ} {ls : List ℤ} {n b used decoded : ℕ} {use_final : Bool} {max : ℕ} {o : Outputs} → 64 < max → AlternativesRight tk sm fs rs ls n b used decoded use_final max o o (Refused 6)
+pub listed_many : {tk : List ℕ} {sm fs : List Float} {rs : List ℕ} {ls : List ℤ} {n b used decoded : ℕ} {use_final : Bool} {max : ℕ} {o : Outputs} → 64 < max → AlternativesRight tk sm fs rs ls n b used decoded use_final max o o (Err BadSetting)
 unfolding read_alternatives
-listed_many {max = max} {o} h = record { answer = λ g q gs st u F. listed_refused 6 (rw (lt-ltb 64 max h)) refl }
+listed_many {max = max} {o} h = record { answer = λ g q gs st u F. listed_refused BadSetting (rw (lt-ltb 64 max h)) refl }
 
 -- what the test said, with the entries counted
 pub short_told : (z : Size) (k : ℕ) (o : Outputs) {e : ℕ} {r x : Bool} → r ≡ too_short z k (sizes (length o.words) (length o.frames) (length o.segments / 3) e) → e ≡ lesser_of (length o.ends / 2) (length o.costs) → r ≡ x → too_short z k (places_in o) ≡ x

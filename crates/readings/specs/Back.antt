@@ -1,16 +1,15 @@
 -- What the slices hold, read back. Assumes nothing.
-use Rattle.std.specs.Prelude.{◌≡◌, refl, ℕ, zero, suc, ◌+◌, ◌-◌, ◌*◌, ◌≤◌, ◌<◌, List, [], ◌∷◌, ◌++◌, ℤ, length, get_or, take, drop, Float}
+use Rattle.std.specs.Prelude.{◌≡◌, refl, ℕ, zero, suc, ◌+◌, ◌-◌, ◌*◌, ◌≤◌, ◌<◌, List, [], ◌∷◌, ◌++◌, ℤ, length, get_or, take, drop, Float, Result, Ok}
 use Rattle.std.proofs.Common.{sym, ◌∙◌, ap, ap₂, arith, append_assoc, length-append, take_at, drop_at}
 use Rattle.std.proofs.lemmas.List.{length-map}
 use Rattle.model.specs.Reads.{Traced as Told}
 use Rattle.model.specs.Calls.{Answer, paths_answer}
 use Rattle.traceback.specs.Write.{flat}
 use Rattle.traceback.specs.Right.{segments_in}
-use Rattle.readings.specs.declared.Listed.{Listed}
-use Rattle.readings.specs.declared.Listed.TheVariants.{Paths}
 use Rattle.readings.specs.Paths.{words_in, frames_in, phones_in, Outputs, front, all_words, all_frames, all_segments, ends_from, costs_of, Plains, paths_from, paths_in}
 use Rattle.readings.specs.Right.{listed_as, Filled, ListedIs, listed_refused, listed_paths}
 use Rattle.readings.specs.Fronts.{flat-length, words_long, frames_long, segments_long, ends_long}
+use Rattle.refusals.specs.declared.Reason.{Reason}
 
 more_less : (w n : ℕ) → w + n - w ≡ n
 more_less w n = omega arith
@@ -40,12 +39,12 @@ filled_back : {ts : List Told} {o o' : Outputs} → Filled ts o o' → Plains ts
 filled_back {ts} {o} {o'} f p =
     (λ i. paths_from (length ts) 0 0 (f.words i) (f.frames i) (f.segments i) (f.ends i) (f.costs i)) ∙ read_back ts p 0 0 _ _ _ _ _
 
-pub listed_back : {a : Answer} {o o' : Outputs} {r : Listed} → ListedIs a o o' r → listed_as r o' ≡ a
-listed_back (listed_refused n e q) = sym e
+pub listed_back : {a : Answer} {o o' : Outputs} {r : Result ℕ Reason} → ListedIs a o o' r → listed_as r o' ≡ a
+listed_back (listed_refused r e q) = sym e
 listed_back (listed_paths ts e p f) = ap paths_answer (filled_back f p) ∙ sym e
 
 -- no path is counted that the answer does not have
-pub listed_count_lem : {ts : List Told} {o o' : Outputs} {k : ℕ} → ListedIs (paths_answer ts) o o' (Paths k) → k ≡ length ts
+pub listed_count_lem : {ts : List Told} {o o' : Outputs} {k : ℕ} → ListedIs (paths_answer ts) o o' (Ok k) → k ≡ length ts
 listed_count_lem {ts} (listed_paths us e p f) = let q : us ≡ ts = cc in ap length q
 
 -- ---- where the paths end
@@ -140,5 +139,5 @@ filled_ends {ts} {o} {o'} f p =
       segments_on = λ i l. let a = behind i in let b = behind (suc i) in let d = segments_on ts 0 0 es i l in omega arith;
     }
 
-pub listed_ends : {a : Answer} {o o' : Outputs} {k : ℕ} → ListedIs a o o' (Paths k) → EndsWithin k o'
+pub listed_ends : {a : Answer} {o o' : Outputs} {k : ℕ} → ListedIs a o o' (Ok k) → EndsWithin k o'
 listed_ends (listed_paths ts e p f) = filled_ends f p

@@ -1,5 +1,5 @@
 -- Of a table that the copy can have, no token that counts has a NaN for its rank. Assumes nothing.
-use Rattle.std.specs.Prelude.{◌≡◌, refl, ℕ, ◌≤◌, ◌<◌, Bool, true, false, not, cond, List, length, Float}
+use Rattle.std.specs.Prelude.{◌≡◌, refl, ℕ, ◌≤◌, ◌<◌, Bool, true, false, not, cond, List, length, Float, Some, None}
 use Rattle.std.proofs.Common.{sym, ap₂, ◌∙◌, arith}
 use Rattle.std.proofs.Math.Path.{ap, subst}
 use Rattle.std.proofs.Math.Dec.{T}
@@ -22,23 +22,22 @@ use Rattle.records.specs.History.{History}
 use Rattle.stores.specs.Shown.{Shown}
 use Rattle.stores.specs.Tables.{active_at, stored_is}
 use Rattle.traceback.specs.declared.Candidate.{Candidate}
-use Rattle.traceback.specs.declared.Best.TheVariants.{Nobody, Token}
 use Rattle.traceback.specs.Ranks.{rank_in, candidate_of, candidate_at}
 use Rattle.traceback.specs.Ranking.{candidate_is, weight_is}
 
 -- a candidate is a token's own, and that one counts
-only : (f : Bool) (x c : Candidate) → cond f (Token x) Nobody ≡ Token c → (f ≡ true) × (c ≡ x)
+only : (f : Bool) (x c : Candidate) → cond f (Some x) None ≡ Some c → (f ≡ true) × (c ≡ x)
 only true x c e = (refl, cc)
 only false x c e = let z : ◌≡◌ {A = ℕ} 0 1 = cc in absurd (omega arith)
 
-candidate_only : (s : ℕ) (t : Stored) (w : Float) (counts : Bool) (c : Candidate) → candidate_of s t w counts ≡ Token c
+candidate_only : (s : ℕ) (t : Stored) (w : Float) (counts : Bool) (c : Candidate) → candidate_of s t w counts ≡ Some c
     → (finite (t.cost ⊕ w) ≡ true) × (c ≡ record { state = s; link = t.link; seq = t.seq; rank = rank_in (t.cost ⊕ w) t.graph w counts; cost = t.cost ⊕ w })
 unfolding candidate_of
 candidate_only s t w counts c e = only (finite (t.cost ⊕ w)) (record { state = s; link = t.link; seq = t.seq; rank = rank_in (t.cost ⊕ w) t.graph w counts; cost = t.cost ⊕ w }) c e
 
 module _ (g : Graph) (good : GoodGraph g) (floats : Floats32 g) (heard : List Heard) (st : State) (active : Active g heard st.table st.seq st.fresh) where
   pub ranks_known : {h : ℕ → History} {used : ℕ} {tk : List ℕ} {sm : List Float} {b n : ℕ} → Shown h used tk sm b n st.table → (fs : List Float) → g.finals ≡ fs → n ≤ length fs
-      → (counts : Bool) (s : ℕ) → s < n → (held_at tk (place_in b s) ≡ 0 → ⊥) → (c : Candidate) → candidate_at tk sm fs b s counts ≡ Token c → T (not (is_nan c.rank))
+      → (counts : Bool) (s : ℕ) → s < n → (held_at tk (place_in b s) ≡ 0 → ⊥) → (c : Candidate) → candidate_at tk sm fs b s counts ≡ Some c → T (not (is_nan c.rank))
   unfolding rank_one
   ranks_known {h} {used} {tk} {sm} {b} {n} w fs q long counts s l d c e =
       let a = active_at w s l d in

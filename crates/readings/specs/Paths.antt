@@ -1,5 +1,8 @@
 -- Paths one after another in the lent slices: what stands there, and what writing them asks and leaves.
-use Rattle.std.specs.Prelude.{◌≡◌, ℕ, zero, suc, ◌+◌, ◌-◌, ◌*◌, ◌/◌, ◌≤◌, ◌<◌, Bool, ◌||◌, cond, List, [], ◌∷◌, ◌++◌, map, ℤ, ltb, length, get_or, take, drop, set, Float}
+use Rattle.std.specs.Prelude.{◌≡◌, ℕ, zero, suc, ◌+◌, ◌-◌, ◌*◌, ◌/◌, ◌≤◌, ◌<◌, Bool, ◌||◌, cond, List, [], ◌∷◌, ◌++◌, map, ℤ, ltb, length, get_or, take, drop, set, min, Float}
+use Rattle.std.proofs.Common.{arith, lt-ltb, le-ltb}
+use Rattle.std.proofs.Math.Nat.{min-eq_left, min-eq_right}
+use Rattle.lists.specs.Tests.{case, lt_or_le}
 use Rattle.std.proofs.lemmas.List.Edits.{sets}
 use Rattle.lists.specs.Lists.{sum}
 use Rattle.model.specs.Basics.{◌⊕◌}
@@ -46,6 +49,10 @@ phones_in ts = sum (map (λ (t : Told). length t.phones) ts)
 
 abbrev pub lesser_of : ℕ → ℕ → ℕ
 lesser_of a b = cond (ltb b a) b a
+
+-- it is std's `min`
+pub lesser_is : (a b : ℕ) → min a b ≡ lesser_of a b
+lesser_is a b = case (lt_or_le b a) (λ h. rw (lt-ltb b a h) (min-eq_right (omega arith))) (λ h. rw (le-ltb b a h) (min-eq_left h))
 
 abbrev pub sizes : (words frames segments entries : ℕ) → Sizes
 sizes w f s e = record { words = w; frames = f; segments = s; entries = e }

@@ -1,5 +1,5 @@
 -- What `alternatives` asks, and what it must answer and leave in the lent slices.
-use Rattle.std.specs.Prelude.{◌≡◌, ℕ, ◌≤◌, ◌<◌, Bool, not, List, ℤ, T, length, get_or, take, Float}
+use Rattle.std.specs.Prelude.{◌≡◌, ℕ, ◌≤◌, ◌<◌, Bool, not, List, ℤ, T, length, get_or, take, Float, Some, Result, Ok, Err}
 use Rattle.std.specs.Float.Ieee.{is_nan}
 use Rattle.model.specs.Graph.{Graph}
 use Rattle.model.specs.Passes.{State}
@@ -13,12 +13,11 @@ use Rattle.stores.specs.Lent.{LeftToProgram}
 use Rattle.stores.specs.Shown.{Shown}
 use Rattle.stores.specs.Rep.{lent, Finished}
 use Rattle.traceback.specs.declared.Candidate.{Candidate}
-use Rattle.traceback.specs.declared.Best.TheVariants.{Token as TokenOf}
 use Rattle.traceback.specs.Ranks.{candidate_at}
 use Rattle.traceback.specs.Right.{ReadAsks}
-use Rattle.readings.specs.declared.Listed.{Listed}
-use Rattle.readings.specs.declared.Listed.TheVariants.{Refused, Paths}
 use Rattle.readings.specs.Paths.{cost_in, tolds_of, Outputs, places_in, paths_in, front, all_words, all_frames, all_segments, ends_from, costs_of, Plains}
+use Rattle.refusals.specs.declared.Reason.{Reason}
+use Rattle.refusals.specs.Numbers.{number_of}
 
 -- Stores that stand for some table, places for each state in the scratch slices, and no rank of a token that counts is a NaN.
 pub record AlternativesAsk (tk : List ℕ) (sm fs : List Float) (rs : List ℕ) (ls : List ℤ) (n b used : ℕ) (keys places order : List ℕ) : Type 0 where
@@ -27,7 +26,7 @@ pub record AlternativesAsk (tk : List ℕ) (sm fs : List Float) (rs : List ℕ) 
   pub places_long : n ≤ length places
   pub order_long : n ≤ length order
   pub few : n ≤ 65_535
-  pub known : (counts : Bool) (s : ℕ) → s < n → (held_at tk (place_in b s) ≡ 0 → ⊥) → (c : Candidate) → candidate_at tk sm fs b s counts ≡ TokenOf c → T (not (is_nan c.rank))
+  pub known : (counts : Bool) (s : ℕ) → s < n → (held_at tk (place_in b s) ≡ 0 → ⊥) → (c : Candidate) → candidate_at tk sm fs b s counts ≡ Some c → T (not (is_nan c.rank))
 
 -- the definition's alternatives, as the paths of the first k states
 pub record StatesListed (tk : List ℕ) (sm fs : List Float) (rs : List ℕ) (ls : List ℤ) (n b used : ℕ) (counts : Bool) (max : ℕ) (order : List ℕ) (k : ℕ) : Type 0 where
@@ -46,12 +45,12 @@ pub record Filled (ts : List Told) (o o' : Outputs) : Type 0 where
   pub costs : o'.costs ≡ front o.costs (costs_of ts)
 
 -- The answer and the slices, whole. A refusal leaves the slices as they were.
-pub data ListedIs (a : Answer) (o o' : Outputs) : Listed → Type 0 where
-  listed_refused : (n : ℕ) → a ≡ refused_read n → o' ≡ o → ListedIs a o o' (Refused n)
-  listed_paths : (ts : List Told) → a ≡ paths_answer ts → Plains ts → Filled ts o o' → ListedIs a o o' (Paths (length ts))
+pub data ListedIs (a : Answer) (o o' : Outputs) : Result ℕ Reason → Type 0 where
+  listed_refused : (e : Reason) → a ≡ refused_read (number_of e) → o' ≡ o → ListedIs a o o' (Err e)
+  listed_paths : (ts : List Told) → a ≡ paths_answer ts → Plains ts → Filled ts o o' → ListedIs a o o' (Ok (length ts))
 
 -- the definition's answer, for every state that the stores stand for
-pub record AlternativesRight (tk : List ℕ) (sm fs : List Float) (rs : List ℕ) (ls : List ℤ) (n b used decoded : ℕ) (use_final : Bool) (max : ℕ) (o o' : Outputs) (r : Listed) : Type 0 where
+pub record AlternativesRight (tk : List ℕ) (sm fs : List Float) (rs : List ℕ) (ls : List ℤ) (n b used decoded : ℕ) (use_final : Bool) (max : ℕ) (o o' : Outputs) (r : Result ℕ Reason) : Type 0 where
   pub answer : (g : Graph) → g.finals ≡ fs → (gs : List Float) (st : State) → st.frames ≡ decoded → Finished b n (lent tk sm rs ls gs) used st.table → ListedIs (read_alternatives g st use_final max (places_in o)) o o' r
 
 -- ---- the slices that it works in
@@ -75,6 +74,6 @@ pub record ScratchLeft (w w' : Scratch) : Type 0 where
 
 -- ---- read back
 
-abbrev pub listed_as : Listed → Outputs → Answer
-listed_as (Refused k) o = refused_read k
-listed_as (Paths k) o = paths_answer (paths_in k o)
+abbrev pub listed_as : Result ℕ Reason → Outputs → Answer
+listed_as (Err e) o = refused_read (number_of e)
+listed_as (Ok k) o = paths_answer (paths_in k o)

@@ -1,5 +1,5 @@
 -- Laws of the sizes of paths together. Assumes nothing.
-use Rattle.std.specs.Prelude.{◌≡◌, refl, ℕ, ◌+◌, ◌-◌, ◌≤◌, ◌<◌, List, [], ◌∷◌, ◌++◌, ℤ, length, get_or, take, Float}
+use Rattle.std.specs.Prelude.{◌≡◌, refl, ℕ, ◌+◌, ◌≤◌, ◌<◌, List, [], ◌∷◌, ◌++◌, ℤ, length, get_or, take, Float}
 use Rattle.std.proofs.Common.{sym, ◌∙◌, ap, ap₂, arith, add-one, take-suc}
 use Rattle.std.proofs.lemmas.List.{map-append}
 use Rattle.lists.specs.Tests.{below_more}

@@ -6,9 +6,10 @@ ghost use Rattle.traceback.specs.Trail.{no_trail};
 ghost use Rattle.traceback.specs.Chain.{Walkable, trail_from, SizeIs};
 ghost use Rattle.summaries.specs.Summed.{Summed};
 ghost use Rattle.stores.specs.Lent.{Used};
-ghost use Rattle.readings.specs.Paths.{cost_in, trail_at, tolds_of, lesser_of, sizes, too_short, PathsAsk, FillAsks, TotalIs, PutAsks, PathPut, EntryAsks, EntryPut, WriteAsks, outputs};
+ghost use Rattle.readings.specs.Paths.{cost_in, trail_at, tolds_of, sizes, too_short, PathsAsk, FillAsks, TotalIs, PutAsks, PathPut, EntryAsks, EntryPut, WriteAsks, outputs};
 ghost use Rattle.readings.specs.Right.{StatesListed, Filled, AlternativesAsk, AlternativesRight, scratch, ScratchLeft};
 
+use refusals::Reason;
 use traceback::Size;
 
 // The cost of a state's token with its final weight, or with nothing where finals do not count.
@@ -16,12 +17,7 @@ fn end_cost(sums: &[f32], finals: &[f32], side: u32, s: u32, counts: bool) -> f3
     requires { (side ≤ 1) × (s * 4 + 4 ≤ length sums.now) × (s < length finals.now) }
     ensures { result ≡ cost_in sums.now finals.now side counts s }
 {
-    let cost = tokens::cost_at(sums, side, s);
-    if counts {
-        cost + finals[s as usize]
-    } else {
-        cost + 0.0
-    }
+    tokens::cost_at(sums, side, s) + traceback::end_weight(finals, s, counts)
 }
 
 // The size of the path of a state's token.
@@ -178,12 +174,6 @@ fn write_all(
     }
 }
 
-fn smaller(a: usize, b: usize) -> usize
-    ensures { result ≡ lesser_of a b }
-{
-    if b < a { b } else { a }
-}
-
 // Whether slices with so many places are too short for k paths of this size.
 fn too_short(
     total: Size,
@@ -243,18 +233,11 @@ fn list_states(
         keys,
         places,
     );
-    smaller(max, m)
+    max.min(m)
 }
 
-// A refusal (6, 11), or how many paths were written.
-#[derive(Clone, Copy)]
-pub enum Listed {
-    Refused(u32),
-    Paths(usize),
-}
-
-// The Rust's `alternatives`: words, their frames, three numbers for each segment, two ends and a cost for each path. What is too short for the whole answer is refused
-// before anything is written.
+// The Rust's `alternatives`: words, their frames, three numbers for each segment, two ends and a cost for each path. What is too short for the whole answer is refused (11)
+// before anything is written, more than 64 paths by 6. Gives how many paths were written.
 pub fn alternatives(
     tokens: &[u32],
     sums: &[f32],
@@ -277,12 +260,12 @@ pub fn alternatives(
     segments: &mut [u32],
     ends: &mut [u32],
     costs: &mut [f32],
-) -> Listed
+) -> Result<usize, Reason>
     requires { (AlternativesAsk tokens.now sums.now finals.now records.now labels.now states side used keys.old places.old order.old) × (used * 2 ≤ length history_keys.old) × (used * 2 ≤ length history_skips.old) }
     ensures { (AlternativesRight tokens.now sums.now finals.now records.now labels.now states side used n use_final max (outputs words.old frames.old segments.old ends.old costs.old) (outputs words.new frames.new segments.new ends.new costs.new) result) × (Used ScratchLeft (64 < max) (scratch keys.old places.old order.old history_keys.old history_skips.old) (scratch keys.new places.new order.new history_keys.new history_skips.new)) }
 {
     if refusals::MAX_LISTED < max {
-        return Listed::Refused(refusals::BAD_SETTING);
+        return Err(Reason::BadSetting);
     }
     let counts = traceback::finals_count(tokens, finals, states, side, use_final);
     summaries::fill(records, labels, used, history_keys, history_skips);
@@ -310,13 +293,13 @@ pub fn alternatives(
         words.len(),
         frames.len(),
         segments.len() / 3,
-        smaller(ends.len() / 2, costs.len()),
+        (ends.len() / 2).min(costs.len()),
     ) {
-        return Listed::Refused(refusals::TOO_SHORT);
+        return Err(Reason::TooShort);
     }
     write_all(
         tokens, sums, finals, records, labels, side, used, n, counts, order, k, words, frames,
         segments, ends, costs,
     );
-    Listed::Paths(k)
+    Ok(k)
 }

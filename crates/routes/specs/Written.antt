@@ -1,5 +1,5 @@
 -- Words written from the newest to the oldest, in front of those so far. Assumes nothing.
-use Rattle.std.specs.Prelude.{◌≡◌, refl, ℕ, suc, ◌+◌, ◌-◌, ◌≤◌, ◌<◌, ℤ, pos, length, take, drop, set}
+use Rattle.std.specs.Prelude.{◌≡◌, refl, ℕ, suc, ◌-◌, ◌≤◌, ◌<◌, ℤ, pos, length, take, drop, set}
 use Rattle.std.proofs.Common.{sym, ◌∙◌, ap, ap₂, arith, length-set, drop-cons, drop-set-lt, get_or-set_same, take_at, drop_at}
 use mathlib.Core.List.{List, [], ◌∷◌, ◌++◌, reverse, reverse_aux}
 use Rattle.std.proofs.Math.ListN.{length-reverse_aux}

@@ -13,7 +13,7 @@ ghost use Rattle.routes.specs.Before.{before_by};
 ghost use Rattle.routes.specs.Counts.{count_at, Counts};
 ghost use Rattle.routes.specs.Entries.{JoinPut, RouteAsks, RouteIs};
 
-// A word, and the record to go on from; word 0 at the end.
+// A word, and the record to go on from; word 0 at the end. With 0, the records' own mark of no word, one test compares two histories that may end; options would take a match of four cases.
 #[derive(Clone, Copy)]
 pub struct Word {
     pub word: i32,
@@ -26,6 +26,7 @@ pub fn next_on(records: &[u32], labels: &[i32], route: &[u32], used: u32, link: 
     ensures { NextOn records.now labels.now route.now link result }
 {
     let mut r = link;
+    // A walk from record to record: no index is counted.
     while r != 0 {
         let s = traceback::step_at(records, labels, route, 0, r);
         let word = s.word;
@@ -74,36 +75,17 @@ fn skip_words(records: &[u32], labels: &[i32], route: &[u32], used: u32, link: u
     ensures { Skipped records.now labels.now route.now link n result }
 {
     let mut r = link;
-    let mut k = 0;
-    while k < n {
-        let x = next_on(records, labels, route, used, r);
-        r = x.next;
-        k += 1;
+    for _ in 0..n {
+        r = next_on(records, labels, route, used, r).next;
     }
     r
-}
-
-// How many more m are than n.
-fn excess(m: u32, n: u32) -> u32
-    ensures { result ≡ m - n }
-{
-    if m <= n {
-        return 0;
-    }
-    m - n
 }
 
 // Whether one list comes before another, where they begin with x and y and this says it of what is behind.
 fn is_before(x: i32, y: i32, behind: bool) -> bool
     ensures { result ≡ (ltℤ x y || (eqℤ x y && behind)) }
 {
-    if x < y {
-        return true;
-    }
-    if x == y {
-        return behind;
-    }
-    false
+    x < y || (x == y && behind)
 }
 
 // Whether the words of a come before those of b, as many, oldest first; `newer` says it of what is newer than these.
@@ -153,8 +135,8 @@ pub fn words_before(
     requires { (Walkable records.now labels.now used) × (a ≤ used) × (b ≤ used) × (m ≡ length (back_along records.now labels.now ra.now a)) × (n ≡ length (back_along records.now labels.now rb.now b)) }
     ensures { result ≡ words_lt (reverse (back_along records.now labels.now ra.now a)) (reverse (back_along records.now labels.now rb.now b)) }
 {
-    let p = skip_words(records, labels, ra, used, a, excess(m, n));
-    let q = skip_words(records, labels, rb, used, b, excess(n, m));
+    let p = skip_words(records, labels, ra, used, a, m.saturating_sub(n));
+    let q = skip_words(records, labels, rb, used, b, n.saturating_sub(m));
     before_along(records, labels, used, p, ra, q, rb, m < n)
 }
 
@@ -227,10 +209,8 @@ pub fn fill_counts(records: &[u32], labels: &[i32], used: u32, history_counts: &
     requires { (Walkable records.now labels.now used) × (used ≤ length history_counts.old) }
     ensures { Counts records.now labels.now used used history_counts.new }
 {
-    let mut k = 0;
-    while k < used {
+    for k in 0..used {
         put_count(records, labels, used, k, history_counts);
-        k += 1;
     }
 }
 
@@ -249,8 +229,7 @@ pub fn write_words(
     ensures { WordsWritten (back_along records.now labels.now route.now link) n words.old words.new }
 {
     let mut r = link;
-    let mut k = n as usize;
-    while 0 < k {
+    for k in (0..n as usize).rev() {
         let x = next_on(
             records,
             labels,
@@ -258,9 +237,7 @@ pub fn write_words(
             used,
             summaries::skip_at(history_skips, r),
         );
-        k -= 1;
-        let word = x.word;
-        words[k] = word;
+        words[k] = x.word;
         r = x.next;
     }
 }
@@ -284,6 +261,7 @@ pub fn route_of(nexts: &[u32], entry: u32, route: &mut [u32]) -> usize
 {
     let mut n: usize = 0;
     let mut e = entry;
+    // A walk from entry to entry: no index is counted.
     while e != 0 {
         let i = (e - 1) as usize * 3;
         n = put_join(route, n, nexts[i + 2]);

@@ -1,5 +1,5 @@
 -- What is written is the definition's answer. Assumes nothing.
-use Rattle.std.specs.Prelude.{◌≡◌, refl, ℕ, zero, suc, ◌*◌, ◌/◌, ◌≤◌, Bool, true, false, ◌||◌, cond, List, [], ◌∷◌, ◌++◌, ℤ, pos, nat_abs, ltb, length, take, drop, Float}
+use Rattle.std.specs.Prelude.{◌≡◌, refl, ℕ, zero, suc, ◌*◌, ◌/◌, ◌≤◌, Bool, true, false, ◌||◌, cond, List, [], ◌∷◌, ◌++◌, ℤ, pos, nat_abs, ltb, length, take, drop, Float, Ok, Err}
 use Rattle.std.proofs.Common.{sym, ◌∙◌, ap, ap₂, arith, zero-add, div-add-mod', take_at, drop_at, ltb-false}
 use Rattle.std.proofs.Math.Nat.{add-zero}
 use Rattle.std.proofs.Math.Option.{some}
@@ -15,12 +15,12 @@ use Rattle.records.specs.Stands.{Stands}
 use Rattle.stores.specs.Shown.{Is}
 use Rattle.traceback.specs.declared.Size.{Size}
 use Rattle.traceback.specs.declared.Step.{Step}
-use Rattle.traceback.specs.declared.Traced.TheVariants.{Refused, Written}
 use Rattle.traceback.specs.Trail.{Trail, no_trail, segment, begun, start_of}
 use Rattle.traceback.specs.Chain.{step_of, back_at, tell, chain_trail, trail_from, SizeIs}
 use Rattle.traceback.specs.Traced.{numbers_of, Routed, trail_is}
 use Rattle.traceback.specs.Write.{flat, Wrote}
 use Rattle.traceback.specs.Right.{Parts, parts, places_of, too_short, segments_in, path_in, Fits, Behind, answer_one, TraceRight}
+use Rattle.refusals.specs.declared.Reason.TheVariants.{TooShort}
 
 -- ---- as many frames as words, and phones that are u32
 
@@ -179,11 +179,11 @@ module _ (rs : List ℕ) (ls : List ℤ) (route : List ℕ) (used n link : ℕ) 
   answer_is gs h ok routed p c i =
       ap (λ (t : Told). answer_one t (places_of m)) (trail_is rs ls gs route n used h ok routed link p c i) ∙ ap (λ (b : Bool). unless (refuse 11 b) (path_answer (some (told_by whole c)))) (short_is size whole_even m c)
 
-  pub trace_refused : {m' : Parts} → too_short z (length m.words) (length m.frames) (length m.segments / 3) ≡ true → m' ≡ m → TraceRight rs ls route used n link m m' (Refused 11)
+  pub trace_refused : {m' : Parts} → too_short z (length m.words) (length m.frames) (length m.segments / 3) ≡ true → m' ≡ m → TraceRight rs ls route used n link m m' (Err TooShort)
   trace_refused e q =
       record { answer = λ gs h ok routed p c i. sym (answer_is gs h ok routed p c i ∙ ap (λ (b : Bool). unless (refuse 11 b) (path_answer (some (told_by whole c)))) e); kept = q }
 
-  pub trace_written : {m' : Parts} → too_short z (length m.words) (length m.frames) (length m.segments / 3) ≡ false → Wrote whole m.words m.frames m.segments m'.words m'.frames m'.segments → TraceRight rs ls route used n link m m' (Written z)
+  pub trace_written : {m' : Parts} → too_short z (length m.words) (length m.frames) (length m.segments / 3) ≡ false → Wrote whole m.words m.frames m.segments m'.words m'.frames m'.segments → TraceRight rs ls route used n link m m' (Ok z)
   trace_written e o =
       let fit = long_enough z m e in
       record {

@@ -1,5 +1,5 @@
 -- What `trace` and `best_path` must answer and leave in the lent parts.
-use Rattle.std.specs.Prelude.{◌≡◌, ℕ, zero, suc, ◌*◌, ◌/◌, ◌≤◌, Bool, ◌||◌, List, [], ◌∷◌, ℤ, pos, ltb, length, take, drop, Float}
+use Rattle.std.specs.Prelude.{◌≡◌, ℕ, zero, suc, ◌*◌, ◌/◌, ◌≤◌, Bool, ◌||◌, List, [], ◌∷◌, ℤ, pos, ltb, length, take, drop, Float, Option, Some, None, Result, Ok, Err}
 use Rattle.std.proofs.Math.Option.{none, some}
 use Rattle.model.specs.Basics.{refuse}
 use Rattle.model.specs.Graph.{Graph}
@@ -13,11 +13,11 @@ use Rattle.records.specs.Stands.{Stands}
 use Rattle.stores.specs.Shown.{Is}
 use Rattle.stores.specs.Rep.{lent, Finished}
 use Rattle.traceback.specs.declared.Size.{Size}
-use Rattle.traceback.specs.declared.Traced.{Traced}
-use Rattle.traceback.specs.declared.Traced.TheVariants.{Refused, Written}
 use Rattle.traceback.specs.declared.BestPath.{BestPath}
 use Rattle.traceback.specs.Trail.{segment}
 use Rattle.traceback.specs.Traced.{numbers_of, Routed}
+use Rattle.refusals.specs.declared.Reason.{Reason}
+use Rattle.refusals.specs.Numbers.{number_of}
 
 -- the three lent parts at one moment
 pub record Parts : Type 0 where
@@ -62,34 +62,34 @@ pub record Behind (z : Size) (m m' : Parts) : Type 0 where
 
 -- ---- a trace
 
-abbrev pub traced_as : Traced → Parts → (cost : Float) → Answer
-traced_as (Refused k) m c = refused_read k
-traced_as (Written z) m c = path_answer (some (path_in m z c))
+abbrev pub traced_as : Result Size Reason → Parts → (cost : Float) → Answer
+traced_as (Err e) m c = refused_read (number_of e)
+traced_as (Ok z) m c = path_answer (some (path_in m z c))
 
-abbrev pub TraceKeeps : Traced → (m m' : Parts) → Type 0
-TraceKeeps (Refused k) m m' = m' ≡ m
-TraceKeeps (Written z) m m' = Behind z m m'
+abbrev pub TraceKeeps : Result Size Reason → (m m' : Parts) → Type 0
+TraceKeeps (Err e) m m' = m' ≡ m
+TraceKeeps (Ok z) m m' = Behind z m m'
 
 -- a read's answer that is one path: 11 where a part is too short
 abbrev pub answer_one : Told → Sizes → Answer
 answer_one t z = unless (refuse 11 (short z (words_of (t ∷ [])) (t ∷ []) 0)) (path_answer (some t))
 
 -- The trace of the path that `link` stands for, along the joins that the route names.
-pub record TraceRight (rs : List ℕ) (ls : List ℤ) (route : List ℕ) (used n link : ℕ) (m m' : Parts) (r : Traced) : Type 0 where
+pub record TraceRight (rs : List ℕ) (ls : List ℤ) (route : List ℕ) (used n link : ℕ) (m m' : Parts) (r : Result Size Reason) : Type 0 where
   pub answer : (gs : List Float) (h : ℕ → History) → Stands (store rs ls gs) used h → Routed used route → (p : Path) (cost : Float) → Is h used link p → traced_as r m' cost ≡ answer_one (trace n (numbers_of h route) p cost) (places_of m)
   pub kept : TraceKeeps r m m'
 
 -- ---- the best path
 
-abbrev pub best_as : BestPath → Parts → Answer
-best_as (BestPath.Refused k) m = refused_read k
-best_as BestPath.Nobody m = path_answer none
-best_as (BestPath.Found z c) m = path_answer (some (path_in m z c))
+abbrev pub best_as : Result (Option BestPath) Reason → Parts → Answer
+best_as (Err e) m = refused_read (number_of e)
+best_as (Ok None) m = path_answer none
+best_as (Ok (Some p)) m = path_answer (some (path_in m p.size p.cost))
 
-abbrev pub BestKeeps : BestPath → (m m' : Parts) → Type 0
-BestKeeps (BestPath.Refused k) m m' = m' ≡ m
-BestKeeps BestPath.Nobody m m' = m' ≡ m
-BestKeeps (BestPath.Found z c) m m' = Behind z m m'
+abbrev pub BestKeeps : Result (Option BestPath) Reason → (m m' : Parts) → Type 0
+BestKeeps (Err e) m m' = m' ≡ m
+BestKeeps (Ok None) m m' = m' ≡ m
+BestKeeps (Ok (Some p)) m m' = Behind p.size m m'
 
 -- what a read is given: stores that stand for some table
 pub record ReadAsks (tk : List ℕ) (sm fs : List Float) (rs : List ℕ) (ls : List ℤ) (n b used : ℕ) : Type 0 where
@@ -105,6 +105,6 @@ pub record ReadAsks (tk : List ℕ) (sm fs : List Float) (rs : List ℕ) (ls : L
   pub finished : Finished b n (lent tk sm rs ls gaps) used table
 
 -- the definition's answer, for every state that the stores stand for
-pub record BestPathRight (tk : List ℕ) (sm fs : List Float) (rs : List ℕ) (ls : List ℤ) (n b used decoded : ℕ) (use_final : Bool) (m m' : Parts) (r : BestPath) : Type 0 where
+pub record BestPathRight (tk : List ℕ) (sm fs : List Float) (rs : List ℕ) (ls : List ℤ) (n b used decoded : ℕ) (use_final : Bool) (m m' : Parts) (r : Result (Option BestPath) Reason) : Type 0 where
   pub answer : (g : Graph) → g.finals ≡ fs → (gs : List Float) (st : State) → st.frames ≡ decoded → Finished b n (lent tk sm rs ls gs) used st.table → best_as r m' ≡ read_best g st use_final (places_of m)
   pub kept : BestKeeps r m m'

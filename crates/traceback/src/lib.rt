@@ -6,7 +6,6 @@ ghost use Rattle.std.specs.Prelude.{◌≡◌, ◌+◌, ◌-◌, ◌*◌, ◌≤
 ghost use Rattle.std.specs.Float.Ieee.{eq};
 ghost use Rattle.real32.specs.Least.{fmin};
 ghost use Rattle.model.specs.Basics.{◌≺◌};
-ghost use Rattle.model.specs.Path.{memℕ};
 ghost use Rattle.traceback.specs.Table.{Counted, FinalsCount, LeastsAre, RelativeIs};
 ghost use Rattle.traceback.specs.Ranks.{weight_in, rank_in, candidate_at, BestIs, soonest_of};
 ghost use Rattle.traceback.specs.Trail.{no_trail};
@@ -14,6 +13,7 @@ ghost use Rattle.traceback.specs.Chain.{takes_kept, own_step, goes_on, kept_step
 ghost use Rattle.traceback.specs.Write.{WordAsks, WordPut, with_head, BegunIn, Wrote};
 ghost use Rattle.traceback.specs.Right.{Fits, too_short, parts, TraceRight, ReadAsks, BestPathRight};
 
+use refusals::Reason;
 use tokens::next_active;
 
 // The Rust's `num_active`.
@@ -48,7 +48,7 @@ pub fn finals_count(tokens: &[u32], finals: &[f32], states: u32, side: u32, use_
     false
 }
 
-// The lesser of two costs; the first where they are level.
+// The lesser of two costs; the first where they are level, while f32's `min` may give either, as of 0 and -0.
 fn lesser(x: f32, y: f32) -> f32
     ensures { result ≡ fmin x y }
 {
@@ -99,8 +99,8 @@ pub fn final_relative_cost(
     real32::infinity()
 }
 
-// What a state's token is ranked by where it ends there: its final weight, or nothing where finals do not count.
-fn end_weight(finals: &[f32], s: u32, counts: bool) -> f32
+// What is added to the cost of a state's token where it ends there: its final weight, or nothing where finals do not count.
+pub fn end_weight(finals: &[f32], s: u32, counts: bool) -> f32
     requires { s < length finals.now }
     ensures { result ≡ weight_in finals.now s counts }
 {
@@ -130,12 +130,6 @@ pub struct Candidate {
     pub cost: f32,
 }
 
-#[derive(Clone, Copy)]
-pub enum Best {
-    Nobody,
-    Token(Candidate),
-}
-
 // The token of an active state: nobody where its cost with the final weight is not finite.
 pub fn candidate_at(
     tokens: &[u32],
@@ -144,7 +138,7 @@ pub fn candidate_at(
     side: u32,
     s: u32,
     counts: bool,
-) -> Best
+) -> Option<Candidate>
     requires { (side ≤ 1) × (s * 8 + 8 ≤ length tokens.now) × (s * 4 + 4 ≤ length sums.now) × (s < length finals.now) }
     ensures { result ≡ candidate_at tokens.now sums.now finals.now side s counts }
 {
@@ -152,10 +146,10 @@ pub fn candidate_at(
     let weight = end_weight(finals, s, counts);
     let cost = t.cost + weight;
     if !real32::is_finite(cost) {
-        return Best::Nobody;
+        return None;
     }
     let rank = rank_of(cost, t.graph, weight, counts);
-    Best::Token(Candidate {
+    Some(Candidate {
         state: s,
         link: t.link,
         seq: t.seq,
@@ -164,28 +158,34 @@ pub fn candidate_at(
     })
 }
 
-// A lower rank comes first, and of equal ranks the larger seq.
-pub fn is_sooner(a: Candidate, b: Candidate) -> bool
-    ensures { result ≡ (a.rank ≺ b.rank || (eq a.rank b.rank && ltb b.seq a.seq)) }
+// Of two ranks with their seqs, whether the first comes first: a lower rank does, and of equal ranks the larger seq.
+pub fn comes_first(a: (f32, u32), b: (f32, u32)) -> bool
+    ensures { result ≡ (a.0 ≺ b.0 || (eq a.0 b.0 && ltb b.1 a.1)) }
 {
-    if a.rank < b.rank {
+    if a.0 < b.0 {
         return true;
     }
-    if a.rank == b.rank {
-        return b.seq < a.seq;
+    if a.0 == b.0 {
+        return b.1 < a.1;
     }
     false
 }
 
+pub fn is_sooner(a: Candidate, b: Candidate) -> bool
+    ensures { result ≡ (a.rank ≺ b.rank || (eq a.rank b.rank && ltb b.seq a.seq)) }
+{
+    comes_first((a.rank, a.seq), (b.rank, b.seq))
+}
+
 // The sooner of two; `a` where neither is.
-fn soonest(a: Best, b: Best) -> Best
+fn soonest(a: Option<Candidate>, b: Option<Candidate>) -> Option<Candidate>
     ensures { result ≡ soonest_of a b }
 {
     match a {
-        Best::Nobody => b,
-        Best::Token(x) => match b {
-            Best::Nobody => a,
-            Best::Token(y) => { if is_sooner(y, x) { b } else { a } }
+        None => b,
+        Some(x) => match b {
+            None => a,
+            Some(y) => { if is_sooner(y, x) { b } else { a } }
         },
     }
 }
@@ -198,15 +198,13 @@ pub fn best_token(
     states: u32,
     side: u32,
     use_final: bool,
-) -> Best
+) -> Option<Candidate>
     requires { (side ≤ 1) × (states * 8 ≤ length tokens.now) × (states * 4 ≤ length sums.now) × (states ≤ length finals.now) }
     ensures { BestIs tokens.now sums.now finals.now side states use_final result }
 {
     let counts = finals_count(tokens, finals, states, side, use_final);
-    let mut best = Best::Nobody;
-    let mut s = states;
-    while 0 < s {
-        s -= 1;
+    let mut best = None;
+    for s in (0..states).rev() {
         if tokens::is_active(tokens, side, s) {
             best = soonest(candidate_at(tokens, sums, finals, side, s, counts), best);
         }
@@ -228,17 +226,6 @@ pub struct Step {
 }
 
 // Whether a record is one of the joins whose kept history is taken.
-fn on_route(route: &[u32], r: u32) -> bool
-    ensures { result ≡ memℕ r route.now }
-{
-    for i in 0..route.len() {
-        if route[i] == r {
-            return true;
-        }
-    }
-    false
-}
-
 fn takes_kept(records: &[u32], labels: &[i32], route: &[u32], r: u32) -> bool
     requires { (0 < r) × (r * 8 ≤ length records.now) × (r * 2 ≤ length labels.now) }
     ensures { result ≡ takes_kept records.now labels.now route.now (r - 1) }
@@ -249,7 +236,7 @@ fn takes_kept(records: &[u32], labels: &[i32], route: &[u32], r: u32) -> bool
     if records::starts_of(records, r) != 0 {
         return false;
     }
-    on_route(route, r)
+    route.contains(&r)
 }
 
 // A record on the way itself; a join has neither word nor phone.
@@ -257,11 +244,10 @@ fn own_step(records: &[u32], labels: &[i32], r: u32) -> Step
     requires { (0 < r) × (r * 8 ≤ length records.now) × (r * 2 ≤ length labels.now) }
     ensures { result ≡ own_step records.now labels.now (r - 1) }
 {
-    let word = records::word_of(labels, r);
     Step {
         next: records::prev_of(records, r),
         frame: records::frame_of(records, r),
-        word,
+        word: records::word_of(labels, r),
         phone: records::starts_of(records, r),
         back: 0,
         at: 0,
@@ -286,29 +272,24 @@ fn kept_step(records: &[u32], labels: &[i32], n: u32, r: u32) -> Step
     requires { (0 < r) × (r * 8 ≤ length records.now) × (r * 2 ≤ length labels.now) }
     ensures { result ≡ kept_step records.now labels.now n (r - 1) }
 {
-    let next = records::kept_of(records, r);
     let frame = records::frame_of(records, r);
-    let word = records::kept_word_of(labels, r);
-    let phone = records::kept_starts_of(records, r);
+    let step = Step {
+        next: records::kept_of(records, r),
+        frame,
+        word: records::kept_word_of(labels, r),
+        phone: records::kept_starts_of(records, r),
+        back: 0,
+        at: 0,
+    };
     let winner = records::winner_of(records, r);
     if goes_on(records::kept_phone_of(records, r), winner, frame, n) {
         return Step {
-            next,
-            frame,
-            word,
-            phone,
             back: winner,
             at: frame + 1,
+            ..step
         };
     }
-    Step {
-        next,
-        frame,
-        word,
-        phone,
-        back: 0,
-        at: 0,
-    }
+    step
 }
 
 pub fn step_at(records: &[u32], labels: &[i32], route: &[u32], n: u32, r: u32) -> Step
@@ -341,10 +322,8 @@ fn begin(head: Head, phone: u32, frame: u32) -> Head
     }
     if head.phone == phone {
         return Head {
-            count: head.count,
-            phone,
             start: frame,
-            end: head.end,
+            ..head
         };
     }
     Head {
@@ -384,8 +363,7 @@ pub fn measure(records: &[u32], labels: &[i32], route: &[u32], used: u32, n: u32
     let mut r = link;
     while r != 0 {
         let s = step_at(records, labels, route, n, r);
-        let word = s.word;
-        if word != 0 {
+        if s.word != 0 {
             words += 1;
         }
         head = begin(head, resumes(head, s), s.at);
@@ -465,8 +443,7 @@ pub fn write(
     let mut r = link;
     while r != 0 {
         let s = step_at(records, labels, route, n, r);
-        let word = s.word;
-        at = put_word(words, frames, at, word, s.frame);
+        at = put_word(words, frames, at, s.word, s.frame);
         head = begin_in(segments, size.segments, head, resumes(head, s), s.at);
         head = begin_in(segments, size.segments, head, s.phone, s.frame);
         r = s.next;
@@ -489,15 +466,8 @@ fn too_short(size: Size, words: usize, frames: usize, segments: usize) -> bool
     segments < size.segments as usize
 }
 
-// A refusal (11), or how much was written.
-#[derive(Clone, Copy)]
-pub enum Traced {
-    Refused(u32),
-    Written(Size),
-}
-
 // The Rust's `trace_route`, from the record `link` on: words, their frames, and three numbers for each segment. `n` are the frames decoded, and the route has the
-// records of the joins whose kept histories are taken. What is too short is refused before anything is written.
+// records of the joins whose kept histories are taken. What is too short is refused (11) before anything is written.
 pub fn trace(
     records: &[u32],
     labels: &[i32],
@@ -508,29 +478,28 @@ pub fn trace(
     words: &mut [i32],
     frames: &mut [u32],
     segments: &mut [u32],
-) -> Traced
+) -> Result<Size, Reason>
     requires { (Walkable records.now labels.now used) × (link ≤ used) }
     ensures { TraceRight records.now labels.now route.now used n link (parts words.old frames.old segments.old) (parts words.new frames.new segments.new) result }
 {
     let size = measure(records, labels, route, used, n, link);
     if too_short(size, words.len(), frames.len(), segments.len() / 3) {
-        return Traced::Refused(refusals::TOO_SHORT);
+        return Err(Reason::TooShort);
     }
     write(
         records, labels, route, used, n, link, size, words, frames, segments,
     );
-    Traced::Written(size)
+    Ok(size)
 }
 
-// A refusal (11), no path since there is no token, or the best path's size and cost.
+// The size and the cost of the best path.
 #[derive(Clone, Copy)]
-pub enum BestPath {
-    Refused(u32),
-    Nobody,
-    Found(Size, f32),
+pub struct BestPath {
+    pub size: Size,
+    pub cost: f32,
 }
 
-// The Rust's `best_path`.
+// The Rust's `best_path`: none where there is no token; what is too short is refused (11).
 pub fn best_path(
     tokens: &[u32],
     sums: &[f32],
@@ -545,29 +514,26 @@ pub fn best_path(
     words: &mut [i32],
     frames: &mut [u32],
     segments: &mut [u32],
-) -> BestPath
+) -> Result<Option<BestPath>, Reason>
     requires { ReadAsks tokens.now sums.now finals.now records.now labels.now states side used }
     ensures { BestPathRight tokens.now sums.now finals.now records.now labels.now states side used n use_final (parts words.old frames.old segments.old) (parts words.new frames.new segments.new) result }
 {
-    match best_token(tokens, sums, finals, states, side, use_final) {
-        Best::Nobody => BestPath::Nobody,
-        Best::Token(c) => {
-            let link = c.link;
-            let cost = c.cost;
-            match trace(
-                records,
-                labels,
-                &records[..0],
-                used,
-                n,
-                link,
-                words,
-                frames,
-                segments,
-            ) {
-                Traced::Refused(number) => BestPath::Refused(number),
-                Traced::Written(size) => BestPath::Found(size, cost),
-            }
-        }
-    }
+    let Some(best) = best_token(tokens, sums, finals, states, side, use_final) else {
+        return Ok(None);
+    };
+    let size = trace(
+        records,
+        labels,
+        &records[..0],
+        used,
+        n,
+        best.link,
+        words,
+        frames,
+        segments,
+    )?;
+    Ok(Some(BestPath {
+        size,
+        cost: best.cost,
+    }))
 }

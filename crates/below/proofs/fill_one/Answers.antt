@@ -17,17 +17,14 @@ own_way-own-requires c = (record { records = c.requires.walkable.records; labels
 pub kept_way-kept-requires : goal.kept_way-kept-requires
 kept_way-kept-requires c = (c.requires.walkable, c.requires.gaps_long, c.requires.begins, c.requires.low, c.requires.lists_long)
 
-pub fill_list-to-requires : goal.fill_list-to-requires
-fill_list-to-requires c = fill_asks c.requires c.own_way-own.result c.kept_way-kept.result c.own_way-own.ensures c.kept_way-kept.ensures
-
-pub returns-then-to-eq0 : goal.returns-then-to-eq0
-returns-then-to-eq0 c = no_place (record { own = c.own_way-own.result; kept = c.kept_way-kept.result; wanted = let e = c.count_of.ensures in let d = c.if-count_of-eq0.false in omega (arith, d); own_way = c.own_way-own.ensures; kept_way = c.kept_way-kept.ensures; fill = rw c.if-to-eq0.true at c.fill_list-to.ensures })
-
-pub overflow_sub-to : goal.overflow_sub-to
-overflow_sub-to c = c.fill_list-to.ensures.on c.if-to-eq0.false
+pub fill_list-requires : goal.fill_list-requires
+fill_list-requires c = fill_asks c.requires c.own_way-own.result c.kept_way-kept.result c.own_way-own.ensures c.kept_way-kept.ensures
 
 pub put_list-requires : goal.put_list-requires
 put_list-requires c = (c.requires.begins, let z = c.requires.lists_long in let y = c.requires.low in omega arith)
 
+pub returns-in_err-to : goal.returns-in_err-to
+returns-in_err-to c = rw c.from_residual.ensures (no_place (record { own = c.own_way-own.result; kept = c.kept_way-kept.result; wanted = let e = c.count_of.ensures in let d = c.if-count_of-eq0.false in omega (arith, d); own_way = c.own_way-own.ensures; kept_way = c.kept_way-kept.ensures; fill = c.in_err-to.ensures }))
+
 pub returns : goal.returns
-returns c = was_listed c.fill_list-to.result c.if-to-eq0.false (record { own = c.own_way-own.result; kept = c.kept_way-kept.result; wanted = let e = c.count_of.ensures in let d = c.if-count_of-eq0.false in omega (arith, d); own_way = c.own_way-own.ensures; kept_way = c.kept_way-kept.ensures; fill = c.fill_list-to.ensures }) c.put_list.ensures
+returns c = was_listed c.in_ok-to.to (record { own = c.own_way-own.result; kept = c.kept_way-kept.result; wanted = let e = c.count_of.ensures in let d = c.if-count_of-eq0.false in omega (arith, d); own_way = c.own_way-own.ensures; kept_way = c.kept_way-kept.ensures; fill = c.in_ok-to.ensures }) c.put_list.ensures

@@ -1,6 +1,5 @@
 -- The states passed have their joins marked.
 use mathlib.Core.Path.{◌≡◌, refl, ◌∙◌}
-use Prim.Native.Nat.{◌-◌}
 use Rattle.lists.specs.Tests.{next_fits}
 use Rattle.below.proofs.Marking.{heads_none, heads_next}
 use native.Mathlib.Omega.{arith}

@@ -5,7 +5,3 @@ use Rattle.groups.proofs.drop_repeats.Given as goal
 abbrev pub invariant-loop-j : goal.invariant-loop-j
 invariant-loop-j l =
     DroppedTo l.tokens l.records l.labels l.side l.used l.to_join l.initial.order l.n l.keys l.places l.order l.j
-
-abbrev pub decreases-loop-j : goal.decreases-loop-j
-decreases-loop-j l =
-    l.j

@@ -5,7 +5,3 @@ use Rattle.groups.proofs.repeats.Given as goal
 abbrev pub invariant-loop-i : goal.invariant-loop-i
 invariant-loop-i l =
     AloneTo l.tokens l.records l.labels l.side l.used l.to_join l.order l.keys l.places l.j l.i
-
-abbrev pub decreases-loop-i : goal.decreases-loop-i
-decreases-loop-i l =
-    l.i

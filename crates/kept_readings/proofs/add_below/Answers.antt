@@ -1,5 +1,5 @@
 -- Those before the i-th are added.
-use Rattle.std.proofs.Common.{◌-◌, arith}
+use Rattle.std.proofs.Common.{arith}
 use Rattle.kept_readings.specs.Steps.{below_none, below_next, below_short, below_all, room_still}
 use Rattle.kept_readings.proofs.add_below.Goals as goal
 
@@ -9,20 +9,20 @@ loop-i-init c = below_none _ _ _ _ _ _ _ _ _ _ _ _ _ _ c.requires.2
 pub overflow_add-first : goal.overflow_add-first
 overflow_add-first c = record { fits = let z = c.requires.0.fits in let t = c.loop-i-test.true in omega arith }
 
-pub add_entry-m-requires : goal.add_entry-m-requires
-add_entry-m-requires c = let t = c.loop-i-test.true in let r = c.requires.0.room in (record { hashes = let z = r.hashes in omega arith; nexts = let z = r.nexts in omega arith; sums = let z = r.sums in omega arith }, c.requires.0.lens _ t, room_still c.loop-i.invariant.sized c.requires.1, c.loop-i.invariant.fits)
+pub add_entry-requires : goal.add_entry-requires
+add_entry-requires c = let t = c.loop-i-test.true in let r = c.requires.0.room in (record { hashes = let z = r.hashes in omega arith; nexts = let z = r.nexts in omega arith; sums = let z = r.sums in omega arith }, c.requires.0.lens _ t, room_still c.loop-i.invariant.sized c.requires.1, c.loop-i.invariant.fits)
 
-pub returns-then-places-m : goal.returns-then-places-m
-returns-then-places-m c = below_short _ _ _ _ _ _ _ _ _ _ _ _ _ _ c.loop-i.invariant c.loop-i-test.true c.add_entry-m.ensures c.if-places-m.true
+pub returns-in_err-m : goal.returns-in_err-m
+returns-in_err-m c = rw c.from_residual.ensures (below_short _ _ _ _ _ _ _ _ _ _ _ _ _ _ c.loop-i.invariant c.loop-i-test.true c.in_err-m.ensures)
 
-pub overflow_add-i : goal.overflow_add-i
-overflow_add-i c = record { fits = let z = c.requires.0.fits in let t = c.loop-i-test.true in omega arith }
+pub overflow_step-i : goal.overflow_step-i
+overflow_step-i c = record { fits = let z = c.requires.0.fits in let t = c.loop-i-test.true in omega arith }
 
 pub loop-i-smaller : goal.loop-i-smaller
 loop-i-smaller c = let t = c.loop-i-test.true in omega arith
 
 pub loop-i-preserved : goal.loop-i-preserved
-loop-i-preserved c = below_next _ _ _ _ _ _ _ _ _ _ _ _ _ _ c.loop-i.invariant c.loop-i-test.true c.add_entry-m.ensures (record { hashes = c.add_entry-m.auto.kept_hashes; links = c.add_entry-m.auto.kept_links; sums = c.add_entry-m.auto.kept_sums }) c.if-places-m.false
+loop-i-preserved c = below_next _ _ _ _ _ _ _ _ _ _ _ _ _ _ c.loop-i.invariant c.loop-i-test.true c.in_ok-m.ensures (record { hashes = c.add_entry.auto.kept_hashes; links = c.add_entry.auto.kept_links; sums = c.add_entry.auto.kept_sums })
 
 pub returns : goal.returns
 returns c = below_all _ _ _ _ _ _ _ _ _ _ _ _ _ _ c.loop-i.invariant c.loop-i-test.false

@@ -24,8 +24,8 @@ count_of-requires c = let z = c.requires.3.low in let e = c.link_at-link.ensures
 pub add_below-requires : goal.add_below-requires
 add_below-requires c = (head_asks c.link_at-link.ensures c.first_join-join.ensures c.hash_above-above.ensures c.requires.3 _ _ c.first_of.ensures c.count_of.ensures, c.requires.4, c.requires.5)
 
-pub returns-in-Nobody : goal.returns-in-Nobody
-returns-in-Nobody c = head_nobody c.link_at-link.ensures c.first_join-join.ensures c.hash_above-above.ensures (sym c.candidate_at.ensures ∙ c.in-Nobody.is) c.requires.5
+pub returns-in-None : goal.returns-in-None
+returns-in-None c = head_nobody c.link_at-link.ensures c.first_join-join.ensures c.hash_above-above.ensures (sym c.candidate_at.ensures ∙ c.in-None.is) c.requires.5
 
-pub returns-in-Token : goal.returns-in-Token
-returns-in-Token c = head_token c.link_at-link.ensures c.first_join-join.ensures c.hash_above-above.ensures (sym c.candidate_at.ensures ∙ c.in-Token.is) _ _ c.first_of.ensures c.count_of.ensures c.add_below.ensures
+pub returns-in-Some : goal.returns-in-Some
+returns-in-Some c = head_token c.link_at-link.ensures c.first_join-join.ensures c.hash_above-above.ensures (sym c.candidate_at.ensures ∙ c.in-Some.is) _ _ c.first_of.ensures c.count_of.ensures c.add_below.ensures

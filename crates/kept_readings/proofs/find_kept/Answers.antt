@@ -1,7 +1,7 @@
 -- No place so far has its words.
-use Rattle.std.proofs.Common.{◌≡◌, ℕ, ◌-◌, false, sym, ap, ◌∙◌, arith}
+use Rattle.std.proofs.Common.{◌≡◌, ℕ, false, sym, ap, ◌∙◌, arith}
 use Rattle.lists.specs.Tests.{next_fits, below_more}
-use Rattle.kept_readings.specs.Kept.{kept_read_in, same_kept}
+use Rattle.kept_readings.specs.Kept.{kept_read_in, same_kept, is_found, not_found}
 use Rattle.kept_readings.proofs.find_kept.Goals as goal
 
 pub loop-i-init : goal.loop-i-init
@@ -14,7 +14,7 @@ pub same_kept-requires : goal.same_kept-requires
 same_kept-requires c = tt
 
 pub returns-then-same_kept : goal.returns-then-same_kept
-returns-then-same_kept c = record { few = c.loop-i.invariant.0; before = c.loop-i.invariant.1; found = λ l. ap (same_kept c.args.k) (sym c.kept_at.ensures) ∙ sym c.same_kept.ensures ∙ c.if-same_kept.true }
+returns-then-same_kept c = is_found _ c.loop-i-test.true c.loop-i.invariant.1 (ap (same_kept c.args.k) (sym c.kept_at.ensures) ∙ sym c.same_kept.ensures ∙ c.if-same_kept.true)
 
 pub overflow_step-i : goal.overflow_step-i
 overflow_step-i c = record { fits = next_fits _ _ _ c.loop-i-test.true c.ranges.n.fits }
@@ -26,4 +26,4 @@ pub loop-i-preserved : goal.loop-i-preserved
 loop-i-preserved c = (let t = c.loop-i-test.true in omega arith, below_more (λ (j : ℕ). same_kept c.args.k (kept_read_in c.args.hashes.now c.args.links.now c.args.sums.now j) ≡ false) _ c.loop-i.invariant.1 (ap (same_kept c.args.k) (sym c.kept_at.ensures) ∙ sym c.same_kept.ensures ∙ c.if-same_kept.false))
 
 pub returns : goal.returns
-returns c = record { few = omega arith; before = λ j l. c.loop-i.invariant.1 j (let z = c.loop-i-test.false in omega arith); found = λ l. absurd (omega arith) }
+returns c = not_found (λ j l. c.loop-i.invariant.1 j (let z = c.loop-i-test.false in omega arith))

@@ -1,5 +1,5 @@
 -- The first m are the heads so far.
-use Rattle.std.proofs.Common.{◌≡◌, ℕ, ◌-◌, take, sym, refl, ap, ◌∙◌, subst, arith}
+use Rattle.std.proofs.Common.{◌≡◌, ℕ, take, sym, refl, ap, ◌∙◌, subst, arith}
 use Rattle.lists.specs.Lists.{keep_if}
 use Rattle.lists.specs.Tests.{next_fits}
 use Rattle.kept_readings.specs.Heads.{StateAsks, is_head}

@@ -1,5 +1,4 @@
 -- The kept readings in order, of each word list one of both, merged.
-use mathlib.Core.Path.{◌∙◌}
 use native.Mathlib.Omega.{arith}
 use Rattle.listing.specs.Joining.{order_asks, settle_asks, merge_asks, with_is}
 use Rattle.listing.proofs.list_with.Goals as goal

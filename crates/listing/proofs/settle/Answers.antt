@@ -1,5 +1,4 @@
 -- Keys, sorted; of each word list one is dropped, and both are closed up.
-use mathlib.Core.Path.{◌∙◌}
 use native.Mathlib.Omega.{arith}
 use Rattle.listing.specs.Settling.{drops_ask, settled}
 use Rattle.listing.proofs.settle.Goals as goal

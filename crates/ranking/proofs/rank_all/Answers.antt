@@ -1,5 +1,4 @@
 -- The states below the next active one are listed.
-use Prim.Native.Nat.{◌-◌}
 use borrow.Author.Rules.{rules}
 use native.Mathlib.Omega.{arith}
 use Rattle.ranking.specs.Listing.{listing_begun, listing_asks, listing_on, listing_done}

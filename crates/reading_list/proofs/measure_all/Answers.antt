@@ -1,7 +1,7 @@
 -- The sizes so far.
 use mathlib.Core.Path.{refl, ◌∙◌, subst}
 use native.Mathlib.Omega.{arith}
-use Prim.Native.Nat.{ℕ, ◌-◌}
+use Prim.Native.Nat.{ℕ}
 use Rattle.reading_list.specs.Lines.{view, TotalsAre}
 use Rattle.reading_list.specs.Totals.{total_none, path_of_lem, fits_more, total_more}
 use Rattle.reading_list.proofs.measure_all.Goals as goal

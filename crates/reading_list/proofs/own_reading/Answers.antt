@@ -4,9 +4,9 @@ use lib.Ieee.{of_bits}
 use Rattle.reading_list.specs.Items.{own_reading}
 use Rattle.reading_list.proofs.own_reading.Goals as goal
 
-pub returns-in-Nobody : goal.returns-in-Nobody
+pub returns-in-None : goal.returns-in-None
 unfolding of_bits
-returns-in-Nobody c = ap own_reading (sym c.in-Nobody.is)
+returns-in-None c = ap own_reading (sym c.in-None.is)
 
-pub returns-in-Token : goal.returns-in-Token
-returns-in-Token c = ap own_reading (sym c.in-Token.is)
+pub returns-in-Some : goal.returns-in-Some
+returns-in-Some c = ap own_reading (sym c.in-Some.is)

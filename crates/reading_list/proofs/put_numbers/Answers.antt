@@ -18,4 +18,4 @@ pub bounds-numbers-i-5 : goal.bounds-numbers-i-5
 bounds-numbers-i-5 c = simp length-set (omega arith)
 
 pub returns : goal.returns
-returns c = put_five c.args.numbers.now (c.args.i * 5) c.args.to.words c.args.to.segments c.args.kept c.args.t.phone c.args.t.seq
+returns c = rw (c.from.ensures, c.from-2.ensures) (put_five c.args.numbers.now (c.args.i * 5) c.args.to.words c.args.to.segments c.args.kept c.args.t.phone c.args.t.seq)

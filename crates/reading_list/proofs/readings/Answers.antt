@@ -4,6 +4,7 @@ use lib.ListN.{length}
 use Rattle.places.specs.Places.{kept_few}
 use Rattle.reading_list.specs.Scratch.{used_self, used_late}
 use Rattle.reading_list.specs.Whole.{count_places, too_many_lem, many_listed, many_traced, items_of, read_full, list_asks, read_right}
+use Rattle.std.proofs.lemmas.Result.{err_from_is_err_and}
 use Rattle.reading_list.proofs.readings.Goals as goal
 
 pub returns-then-listed-gt-MAX_LISTED : goal.returns-then-listed-gt-MAX_LISTED
@@ -25,10 +26,10 @@ pub fill_counts-requires : goal.fill_counts-requires
 fill_counts-requires c = (c.requires.0.stores.walkable, count_places c.requires.1 c.fill.auto.history_keys)
 
 pub write_list-requires : goal.write_list-requires
-write_list-requires c = (list_asks c.finals_count-counts.ensures (items_of c.list_readings.ensures c.in-Items.is) c.requires.0 (kept_few (length c.args.kept_hashes.now) (length c.args.kept_links.now) (length c.args.kept_sums.now) refl) c.list_readings.auto.route c.args.n, c.fill.ensures.skips, c.fill_counts.ensures)
+write_list-requires c = (list_asks c.finals_count-counts.ensures (items_of c.in_ok-k.ensures) c.requires.0 (kept_few (length c.args.kept_hashes.now) (length c.args.kept_links.now) (length c.args.kept_sums.now) refl) c.list_readings.auto.route c.args.n, c.fill.ensures.skips, c.fill_counts.ensures)
 
-pub returns-in-Full : goal.returns-in-Full
-returns-in-Full c = (read_full c.finals_count-counts.ensures c.if-listed-gt-MAX_LISTED.false c.if-max-gt-MAX_LISTED.false c.list_readings.ensures c.in-Full.is, used_late c.if-listed-gt-MAX_LISTED.false c.if-max-gt-MAX_LISTED.false (record { keys = record { same_length = c.list_readings.auto.keys }; places = record { same_length = c.list_readings.auto.places }; own = record { same_length = c.list_readings.auto.own }; heads = record { same_length = c.list_readings.auto.heads }; list = record { same_length = c.list_readings.auto.list }; lists = record { same_length = c.list_readings.auto.lists }; route = record { same_length = c.list_readings.auto.route }; history_keys = record { same_length = c.fill.auto.history_keys }; history_skips = record { same_length = c.fill.auto.history_skips }; entry_hashes = record { same_length = c.list_readings.auto.hashes }; entry_nexts = record { same_length = c.list_readings.auto.nexts }; entry_sums = record { same_length = c.list_readings.auto.costs }; kept_hashes = record { same_length = c.list_readings.auto.kept_hashes }; kept_links = record { same_length = c.list_readings.auto.kept_links }; kept_sums = record { same_length = c.list_readings.auto.kept_sums }; order = record { same_length = c.list_readings.auto.order } }))
+pub returns-in_err-k : goal.returns-in_err-k
+returns-in_err-k c = let p = err_from_is_err_and c.from_residual.result c.from_residual.ensures.1 in rw (p.1, p.2) (read_full c.finals_count-counts.ensures c.if-listed-gt-MAX_LISTED.false c.if-max-gt-MAX_LISTED.false c.in_err-k.ensures, used_late c.if-listed-gt-MAX_LISTED.false c.if-max-gt-MAX_LISTED.false (record { keys = record { same_length = c.list_readings.auto.keys }; places = record { same_length = c.list_readings.auto.places }; own = record { same_length = c.list_readings.auto.own }; heads = record { same_length = c.list_readings.auto.heads }; list = record { same_length = c.list_readings.auto.list }; lists = record { same_length = c.list_readings.auto.lists }; route = record { same_length = c.list_readings.auto.route }; history_keys = record { same_length = c.fill.auto.history_keys }; history_skips = record { same_length = c.fill.auto.history_skips }; entry_hashes = record { same_length = c.list_readings.auto.hashes }; entry_nexts = record { same_length = c.list_readings.auto.nexts }; entry_sums = record { same_length = c.list_readings.auto.costs }; kept_hashes = record { same_length = c.list_readings.auto.kept_hashes }; kept_links = record { same_length = c.list_readings.auto.kept_links }; kept_sums = record { same_length = c.list_readings.auto.kept_sums }; order = record { same_length = c.list_readings.auto.order } }))
 
-pub returns-in-Items : goal.returns-in-Items
-returns-in-Items c = (read_right c.finals_count-counts.ensures (items_of c.list_readings.ensures c.in-Items.is) c.requires.0 c.if-listed-gt-MAX_LISTED.false c.if-max-gt-MAX_LISTED.false c.write_list.ensures, used_late c.if-listed-gt-MAX_LISTED.false c.if-max-gt-MAX_LISTED.false (record { keys = record { same_length = c.list_readings.auto.keys }; places = record { same_length = c.list_readings.auto.places }; own = record { same_length = c.list_readings.auto.own }; heads = record { same_length = c.list_readings.auto.heads }; list = record { same_length = c.list_readings.auto.list }; lists = record { same_length = c.list_readings.auto.lists }; route = record { same_length = c.write_list.auto.route ∙ c.list_readings.auto.route }; history_keys = record { same_length = c.fill_counts.auto.history_counts ∙ c.fill.auto.history_keys }; history_skips = record { same_length = c.fill.auto.history_skips }; entry_hashes = record { same_length = c.list_readings.auto.hashes }; entry_nexts = record { same_length = c.list_readings.auto.nexts }; entry_sums = record { same_length = c.list_readings.auto.costs }; kept_hashes = record { same_length = c.list_readings.auto.kept_hashes }; kept_links = record { same_length = c.list_readings.auto.kept_links }; kept_sums = record { same_length = c.list_readings.auto.kept_sums }; order = record { same_length = c.list_readings.auto.order } }))
+pub returns : goal.returns
+returns c = (read_right c.finals_count-counts.ensures (items_of c.in_ok-k.ensures) c.requires.0 c.if-listed-gt-MAX_LISTED.false c.if-max-gt-MAX_LISTED.false c.write_list.ensures, used_late c.if-listed-gt-MAX_LISTED.false c.if-max-gt-MAX_LISTED.false (record { keys = record { same_length = c.list_readings.auto.keys }; places = record { same_length = c.list_readings.auto.places }; own = record { same_length = c.list_readings.auto.own }; heads = record { same_length = c.list_readings.auto.heads }; list = record { same_length = c.list_readings.auto.list }; lists = record { same_length = c.list_readings.auto.lists }; route = record { same_length = c.write_list.auto.route ∙ c.list_readings.auto.route }; history_keys = record { same_length = c.fill_counts.auto.history_counts ∙ c.fill.auto.history_keys }; history_skips = record { same_length = c.fill.auto.history_skips }; entry_hashes = record { same_length = c.list_readings.auto.hashes }; entry_nexts = record { same_length = c.list_readings.auto.nexts }; entry_sums = record { same_length = c.list_readings.auto.costs }; kept_hashes = record { same_length = c.list_readings.auto.kept_hashes }; kept_links = record { same_length = c.list_readings.auto.kept_links }; kept_sums = record { same_length = c.list_readings.auto.kept_sums }; order = record { same_length = c.list_readings.auto.order } }))

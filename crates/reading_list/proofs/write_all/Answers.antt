@@ -1,8 +1,7 @@
 -- The readings so far.
 use mathlib.Core.Path.{refl, ◌∙◌}
 use native.Mathlib.Omega.{arith}
-use Prim.Native.Nat.{◌-◌}
-use Rattle.reading_list.specs.Writing.{going_none, going_long, line_asks, going_next, going_done}
+use Rattle.reading_list.specs.Writing.{going_none, line_asks, going_next, going_done}
 use Rattle.reading_list.proofs.write_all.Goals as goal
 
 pub loop-i-init : goal.loop-i-init

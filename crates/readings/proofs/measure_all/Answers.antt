@@ -1,7 +1,7 @@
 -- The sizes so far.
 use mathlib.Core.Path.{subst}
 use native.Mathlib.Omega.{arith}
-use Prim.Native.Nat.{ℕ, ◌-◌}
+use Prim.Native.Nat.{ℕ}
 use Rattle.readings.specs.Paths.{TotalIs, size_by}
 use Rattle.readings.specs.Totals.{total_none, total_next}
 use Rattle.readings.proofs.measure_all.Goals as goal

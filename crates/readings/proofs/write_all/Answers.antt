@@ -1,6 +1,5 @@
 -- The paths so far.
 use native.Mathlib.Omega.{arith}
-use Prim.Native.Nat.{◌-◌}
 use Rattle.readings.specs.Writing.{going_none, entry_asks, going_next, going_done}
 use Rattle.readings.proofs.write_all.Goals as goal
 

@@ -1,6 +1,5 @@
 -- The words from the record are those from the cursor down, since no record passed has one.
 use borrow.Author.Rules.{rules}
-use Prim.Native.Nat.{◌-◌}
 use mathlib.Core.Path.{refl, ap, ◌∙◌}
 use native.Mathlib.Omega.{arith}
 use Rattle.model.specs.Ints.{nonzero_yes, nonzero_no, back}

@@ -1,5 +1,5 @@
 -- The words from the record are those from the cursor down, since no record passed has one.
-use Prim.Native.Nat.{◌-◌, ◌≤◌}
+use Prim.Native.Nat.{◌≤◌}
 use mathlib.Core.Path.{◌≡◌}
 use Rattle.routes.specs.Back.{back_along}
 use Rattle.routes.proofs.next_on.Given as goal

@@ -5,7 +5,3 @@ use Rattle.routes.proofs.write_words.Given as goal
 abbrev pub invariant-loop-k : goal.invariant-loop-k
 invariant-loop-k l =
     Writing l.records l.labels l.route l.link l.n l.initial.words l.words l.r l.k
-
-abbrev pub decreases-loop-k : goal.decreases-loop-k
-decreases-loop-k l =
-    l.k

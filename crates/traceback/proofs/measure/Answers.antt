@@ -8,21 +8,11 @@ use Rattle.traceback.specs.declared.Step.{Step}
 use Rattle.traceback.specs.declared.Head.{Head}
 use Rattle.traceback.specs.Chain.{head_on}
 use Rattle.traceback.specs.Walk.{step_low, head_few, measuring_none, measuring_next, measuring_end}
-use Rattle.traceback.proofs.measure.Goals.{then-word-ne0, else-word-ne0}
+use Rattle.traceback.proofs.measure.Goals.{then-s-ne0, else-s-ne0}
 use Rattle.traceback.proofs.measure.Goals as goal
 
 pub loop-r-init : goal.loop-r-init
 loop-r-init c = measuring_none c.args.link _ (record { count = refl; phone = refl; start = refl })
-
-pub step_at-s-requires : goal.step_at-s-requires
-step_at-s-requires c = let few = c.loop-r.invariant.few in
-    let w = c.requires.0 in (omega arith, omega (arith, w.records), omega (arith, w.labels))
-
-pub overflow_add-words : goal.overflow_add-words
-overflow_add-words c = let few = c.loop-r.invariant.few in record { fits = omega (arith, c.requires.0.few) }
-
-pub begin-head-requires : goal.begin-head-requires
-begin-head-requires c = let many = c.loop-r.invariant.many in omega (arith, c.requires.0.few)
 
 pub begin-head-requires-in-loop-r : goal.begin-head-requires-in-loop-r
 begin-head-requires-in-loop-r c = let many = c.loop-r.invariant.many in
@@ -38,9 +28,9 @@ loop-r-smaller c = let few = c.loop-r.invariant.few in
 pub loop-r-preserved : goal.loop-r-preserved
 loop-r-preserved c = let s = c.step_at-s.result in
     measuring_next c.args.link c.requires.0 c.requires.1 s c.loop-r-test.true c.step_at-s.ensures
-    (elim c.if-word-ne0.branch [
-      | then-word-ne0 w ↦ inl (nonzero_yes s.word w.if-word-ne0.true, w.words-is)
-      | else-word-ne0 w ↦ inr (nonzero_no s.word (record { sfits = search }) w.if-word-ne0.false, w.words-is)
+    (elim c.if-s-ne0.branch [
+      | then-s-ne0 w ↦ inl (nonzero_yes s.word w.if-s-ne0.true, w.words-is)
+      | else-s-ne0 w ↦ inr (nonzero_no s.word (record { sfits = search }) w.if-s-ne0.false, w.words-is)
     ])
     (c.begin-head.ensures ∙ ap (λ (x : ℕ). head_on c.loop-r.head x s.at) c.resumes.ensures) c.begin-head-in-loop-r.ensures c.loop-r.invariant
 

@@ -1,5 +1,4 @@
 -- What is counted so far, and what is still to come.
-use Prim.Native.Nat.{◌-◌}
 use Rattle.traceback.specs.Walk.{Measuring}
 use Rattle.traceback.proofs.measure.Given as goal
 

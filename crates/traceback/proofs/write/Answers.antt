@@ -12,10 +12,6 @@ use Rattle.traceback.proofs.write.Goals as goal
 pub loop-r-init : goal.loop-r-init
 loop-r-init c = let p = c.requires in writing_none p.0 p.1 p.2 p.3 _ (record { count = refl; phone = refl; start = refl })
 
-pub step_at-s-requires : goal.step_at-s-requires
-step_at-s-requires c = let low = c.loop-r.invariant.low in
-    let p = c.requires in (omega arith, omega (arith, p.0.records), omega (arith, p.0.labels))
-
 pub put_word-at-requires : goal.put_word-at-requires
 put_word-at-requires c = let p = c.requires in
     let s = c.step_at-s.result in
@@ -54,26 +50,8 @@ put_segment-requires c = let p = c.requires in
     let i = c.loop-r.invariant in
     let l = lengths p.0 p.1 p.2 p.3 i in (omega arith, end_asks p.0 p.1 p.2 p.3 i c.loop-r-test.false, omega (arith, p.3.segments))
 
-pub shape_of-words-then-head-ne0 : goal.shape_of-words-then-head-ne0
-shape_of-words-then-head-ne0 c = let p = c.requires in (lengths p.0 p.1 p.2 p.3 c.loop-r.invariant).0
-
-pub shape_of-frames-then-head-ne0 : goal.shape_of-frames-then-head-ne0
-shape_of-frames-then-head-ne0 c = let p = c.requires in (lengths p.0 p.1 p.2 p.3 c.loop-r.invariant).1
-
-pub shape_of-segments-then-head-ne0 : goal.shape_of-segments-then-head-ne0
-shape_of-segments-then-head-ne0 c = let p = c.requires in c.put_segment.auto.segments ∙ (lengths p.0 p.1 p.2 p.3 c.loop-r.invariant).2
-
 pub returns-then-head-ne0 : goal.returns-then-head-ne0
 returns-then-head-ne0 c = let p = c.requires in end_put p.0 p.1 p.2 p.3 c.loop-r.invariant c.loop-r-test.false c.if-head-ne0.true c.put_segment.ensures
-
-pub shape_of-words-else-head-ne0 : goal.shape_of-words-else-head-ne0
-shape_of-words-else-head-ne0 c = let p = c.requires in (lengths p.0 p.1 p.2 p.3 c.loop-r.invariant).0
-
-pub shape_of-frames-else-head-ne0 : goal.shape_of-frames-else-head-ne0
-shape_of-frames-else-head-ne0 c = let p = c.requires in (lengths p.0 p.1 p.2 p.3 c.loop-r.invariant).1
-
-pub shape_of-segments-else-head-ne0 : goal.shape_of-segments-else-head-ne0
-shape_of-segments-else-head-ne0 c = let p = c.requires in (lengths p.0 p.1 p.2 p.3 c.loop-r.invariant).2
 
 pub returns-else-head-ne0 : goal.returns-else-head-ne0
 returns-else-head-ne0 c = let p = c.requires in end_none p.0 p.1 p.2 p.3 c.loop-r.invariant c.loop-r-test.false c.if-head-ne0.false

@@ -1,5 +1,4 @@
 -- What is written of the records passed, and what is still to come.
-use Prim.Native.Nat.{◌-◌}
 use Rattle.traceback.specs.Write.{Writing}
 use Rattle.traceback.proofs.write.Given as goal
 
