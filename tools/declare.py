@@ -8,8 +8,8 @@ Both also say which calls by hand, in the rest of the header and in the wrapper,
 parameter asks for: two slices of one type in each other's place are an error that no compiler sees.
 
 The source are the `extern "C"` functions of that file, the `#[repr(C)]` structs that they name, each in the crate
-that declares it, and the public constants of `refusals`, `fst` and `c_answers`, all with their comments. What the
-script does not understand of them is an error, never left out.
+that declares it, the reasons of `refusals` with their numbers, and the public constants of `refusals`, `fst` and
+`c_answers`, all with their comments. What the script does not understand of them is an error, never left out.
 """
 import re
 import sys
@@ -38,6 +38,8 @@ STRUCT = re.compile(COMMENT + r'^#\[repr\(C\)\]\n#\[derive\(Clone, Copy\)\]\npub
 FIELD = re.compile(COMMENT + r"^ {4}pub (\w+): (\w+),\n", re.M)
 FUNCTION = re.compile(COMMENT + r'^#\[unsafe\(no_mangle\)\]\npub extern "C" fn (\w+)\(([^)]*)\) -> (\w+)\n', re.M)
 CONSTANT = re.compile(COMMENT + r"^pub const (\w+): (\w+) = ([0-9_]+);\n", re.M)
+REASONS = re.compile(r"^pub enum Reason \{\n(.*?)^\}\n", re.M | re.S)
+REASON = re.compile(COMMENT + r"^ {4}(\w+) = ([0-9]+),\n", re.M)
 
 
 def source(crate):
@@ -66,7 +68,15 @@ def structs_of(crate):
     return structs
 
 
+def reasons():
+    """Each reason of a refusal as a constant: `BadShape = 1` is BAD_SHAPE."""
+    body, = REASONS.findall(source("refusals"))
+    for above, name, value in found(REASON, r"^ *\w+ = ", body, "refusals, Reason"):
+        yield comment(above), re.sub(r"(?<=[a-z])(?=[A-Z])", "_", name).upper(), "u32", value
+
+
 def constants():
+    yield from reasons()
     for crate in CONSTANTS:
         for above, name, type_, value in found(CONSTANT, r"^pub const ", source(crate), crate):
             yield comment(above), name, type_, value

@@ -2,19 +2,14 @@
 #![tactic(auto)]
 
 ghost use Rattle.std.specs.Prelude.{◌≡◌};
-ghost use Rattle.c_answers.specs.Forms.{accepted, no_decoder, verdict_of, answer_of, fitted_answer, built_verdict, no_path, path_of, no_count, count_of, listed_count, reading_count, no_silence, silence_at, silence_of, weighed_of, trailing_count, no_index, found_index, shuffled_number, course_numbers, refusal_told, line_count, line_verdict};
+ghost use Rattle.c_answers.specs.Forms.{accepted, no_decoder, verdict_of, answer_of, fitted_answer, built_verdict, no_path, path_of, no_count, told_count, no_silence, silence_at, silence_of, weighed_of, no_index, found_index, shuffled_number, course_numbers, refusal_told, line_verdict};
 
 use courses::Course;
 use cutoff::Config;
-use decoder::{Called, Decoder, Fitted};
-use fst::{Built, Graph};
-use reading_list::ReadingList;
-use reading_search::Found;
-use readings::Listed;
-use refusal_lines::{Read, Written};
-use refusals::{Place, Refusal};
-use shuffle::Shuffled;
-use silence_weighting::{Next, SilenceWeighting, Trailing, Weighed};
+use decoder::{Called, Decoder};
+use fst::Graph;
+use refusals::{Place, Reason, Refusal};
+use silence_weighting::{SilenceWeighting, Weighed};
 use traceback::BestPath;
 
 // A place of a refusal that has none.
@@ -119,51 +114,55 @@ fn accepted_verdict() -> Verdict
     }
 }
 
-fn verdict_of(why: Refusal) -> Verdict
-    ensures { result ≡ verdict_of why }
-{
-    let number = why.number;
-    let place = why.place;
-    match place {
-        Place::Nowhere => Verdict {
-            number,
-            place: NOWHERE,
-            at: 0,
-            arc: 0,
-        },
-        Place::AtArc(s, i) => Verdict {
-            number,
-            place: AT_ARC,
-            at: s,
-            arc: i,
-        },
-        Place::AtState(s) => Verdict {
-            number,
-            place: AT_STATE,
-            at: s,
-            arc: 0,
-        },
-        Place::AtFrames(n) => Verdict {
-            number,
-            place: AT_FRAMES,
-            at: n,
-            arc: 0,
-        },
+impl From<Refusal> for Verdict {
+    ghost from_gives = { λ why r. r ≡ verdict_of why };
+
+    fn from(why: Refusal) -> Verdict {
+        let number = why.number;
+        let place = why.place;
+        match place {
+            Place::Nowhere => Verdict {
+                number,
+                place: NOWHERE,
+                at: 0,
+                arc: 0,
+            },
+            Place::AtArc(s, i) => Verdict {
+                number,
+                place: AT_ARC,
+                at: s,
+                arc: i,
+            },
+            Place::AtState(s) => Verdict {
+                number,
+                place: AT_STATE,
+                at: s,
+                arc: 0,
+            },
+            Place::AtFrames(n) => Verdict {
+                number,
+                place: AT_FRAMES,
+                at: n,
+                arc: 0,
+            },
+        }
     }
 }
 
-pub fn answer_of(called: Called) -> Answer
-    ensures { result ≡ answer_of called }
-{
-    match called {
-        Called::Done(d) => Answer {
-            decoder: d,
-            verdict: accepted_verdict(),
-        },
-        Called::Refused(d, why) => Answer {
-            decoder: d,
-            verdict: verdict_of(why),
-        },
+impl From<Called> for Answer {
+    ghost from_gives = { λ called r. r ≡ answer_of called };
+
+    fn from(called: Called) -> Answer {
+        match called {
+            Called::Done(d) => Answer {
+                decoder: d,
+                verdict: accepted_verdict(),
+            },
+            Called::Refused(d, why) => Answer {
+                decoder: d,
+                verdict: Verdict::from(why),
+            },
+        }
     }
 }
 
@@ -195,34 +194,36 @@ fn no_decoder() -> Decoder
     }
 }
 
-pub fn fitted_answer(fitted: Fitted) -> Fitting
-    ensures { result ≡ fitted_answer fitted }
-{
-    match fitted {
-        Fitted::Unfit(why) => Fitting {
-            fitted: false,
-            decoder: no_decoder(),
-            verdict: verdict_of(why),
-        },
-        Fitted::Done(d) => Fitting {
-            fitted: true,
-            decoder: d,
-            verdict: accepted_verdict(),
-        },
-        Fitted::Refused(d, why) => Fitting {
-            fitted: true,
-            decoder: d,
-            verdict: verdict_of(why),
-        },
+impl From<Result<Called, Refusal>> for Fitting {
+    ghost from_gives = { λ fitted r. r ≡ fitted_answer fitted };
+
+    fn from(fitted: Result<Called, Refusal>) -> Fitting {
+        match fitted {
+            Err(why) => Fitting {
+                fitted: false,
+                decoder: no_decoder(),
+                verdict: Verdict::from(why),
+            },
+            Ok(called) => {
+                let answer = Answer::from(called);
+                Fitting {
+                    fitted: true,
+                    decoder: answer.decoder,
+                    verdict: answer.verdict,
+                }
+            }
+        }
     }
 }
 
-pub fn built_verdict(built: Built) -> Verdict
-    ensures { result ≡ built_verdict built }
-{
-    match built {
-        Built::Accepted(_) => accepted_verdict(),
-        Built::Refused(why) => verdict_of(why),
+impl From<Result<Graph, Refusal>> for Verdict {
+    ghost from_gives = { λ built r. r ≡ built_verdict built };
+
+    fn from(built: Result<Graph, Refusal>) -> Verdict {
+        match built {
+            Ok(_) => accepted_verdict(),
+            Err(why) => Verdict::from(why),
+        }
     }
 }
 
@@ -238,19 +239,21 @@ fn no_path(number: u32) -> Path
     }
 }
 
-pub fn path_of(best: BestPath) -> Path
-    ensures { result ≡ path_of best }
-{
-    match best {
-        BestPath::Refused(n) => no_path(n),
-        BestPath::Nobody => no_path(0),
-        BestPath::Found(size, cost) => Path {
-            number: 0,
-            found: true,
-            words: size.words,
-            segments: size.segments,
-            cost,
-        },
+impl From<Result<Option<BestPath>, Reason>> for Path {
+    ghost from_gives = { λ best r. r ≡ path_of best };
+
+    fn from(best: Result<Option<BestPath>, Reason>) -> Path {
+        match best {
+            Err(reason) => no_path(reason.number()),
+            Ok(None) => no_path(0),
+            Ok(Some(BestPath { size, cost })) => Path {
+                number: 0,
+                found: true,
+                words: size.words,
+                segments: size.segments,
+                cost,
+            },
+        }
     }
 }
 
@@ -260,30 +263,25 @@ fn no_count(number: u32) -> Count
     Count { number, count: 0 }
 }
 
-fn counted(n: u64) -> Count
-    ensures { result ≡ count_of n }
-{
-    Count {
-        number: 0,
-        count: n,
+impl From<Result<u64, Reason>> for Count {
+    ghost from_gives = { λ counted r. r ≡ told_count counted };
+
+    fn from(counted: Result<u64, Reason>) -> Count {
+        match counted {
+            Ok(n) => Count {
+                number: 0,
+                count: n,
+            },
+            Err(reason) => no_count(reason.number()),
+        }
     }
 }
 
-pub fn listed_count(listed: Listed) -> Count
-    ensures { result ≡ listed_count listed }
-{
-    match listed {
-        Listed::Refused(n) => no_count(n),
-        Listed::Paths(n) => counted(n as u64),
-    }
-}
+impl From<Result<usize, Reason>> for Count {
+    ghost from_gives = { λ counted r. r ≡ told_count counted };
 
-pub fn reading_count(list: ReadingList) -> Count
-    ensures { result ≡ reading_count list }
-{
-    match list {
-        ReadingList::Refused(n) => no_count(n),
-        ReadingList::Readings(n) => counted(n as u64),
+    fn from(counted: Result<usize, Reason>) -> Count {
+        Count::from(counted.map(|n| n as u64))
     }
 }
 
@@ -312,30 +310,25 @@ fn silence_at(state: SilenceWeighting, count: u64) -> Silence
     }
 }
 
-pub fn silence_of(next: Next) -> Silence
-    ensures { result ≡ silence_of next }
-{
-    match next {
-        Next::Refused(n) => no_silence(n),
-        Next::State(state) => silence_at(state, 0),
+impl From<Result<SilenceWeighting, Reason>> for Silence {
+    ghost from_gives = { λ next r. r ≡ silence_of next };
+
+    fn from(next: Result<SilenceWeighting, Reason>) -> Silence {
+        match next {
+            Err(reason) => no_silence(reason.number()),
+            Ok(state) => silence_at(state, 0),
+        }
     }
 }
 
-pub fn weighed_silence(w: Weighed) -> Silence
-    ensures { result ≡ weighed_of w }
-{
-    match w {
-        Weighed::Refused(n) => no_silence(n),
-        Weighed::Deltas { next, count } => silence_at(next, count as u64),
-    }
-}
+impl From<Result<Weighed, Reason>> for Silence {
+    ghost from_gives = { λ weighed r. r ≡ weighed_of weighed };
 
-pub fn trailing_count(t: Trailing) -> Count
-    ensures { result ≡ trailing_count t }
-{
-    match t {
-        Trailing::Refused(n) => no_count(n),
-        Trailing::Frames(n) => counted(n),
+    fn from(weighed: Result<Weighed, Reason>) -> Silence {
+        match weighed {
+            Err(reason) => no_silence(reason.number()),
+            Ok(Weighed { next, count }) => silence_at(next, count as u64),
+        }
     }
 }
 
@@ -349,93 +342,93 @@ fn no_index(number: u32) -> Index
     }
 }
 
-pub fn index_of(found: Found) -> Index
-    ensures { result ≡ found_index found }
-{
-    match found {
-        Found::At(i) => Index {
-            number: 0,
-            found: true,
-            index: i as u64,
-        },
-        Found::Nothing => no_index(0),
-        Found::Refused(n) => no_index(n),
+impl From<Result<Option<usize>, Reason>> for Index {
+    ghost from_gives = { λ found r. r ≡ found_index found };
+
+    fn from(found: Result<Option<usize>, Reason>) -> Index {
+        match found {
+            Ok(Some(i)) => Index {
+                number: 0,
+                found: true,
+                index: i as u64,
+            },
+            Ok(None) => no_index(0),
+            Err(reason) => no_index(reason.number()),
+        }
     }
 }
 
-pub fn shuffled_number(s: Shuffled) -> u32
-    ensures { result ≡ shuffled_number s }
+// 0, or the refusal's number.
+pub fn shuffled_number(shuffled: Result<(), Reason>) -> u32
+    ensures { result ≡ shuffled_number shuffled }
 {
-    match s {
-        Shuffled::Done => 0,
-        Shuffled::Refused(n) => n,
+    match shuffled {
+        Ok(()) => 0,
+        Err(reason) => reason.number(),
     }
 }
 
-pub fn course_numbers(c: Course) -> CourseAt
-    ensures { result ≡ course_numbers c }
-{
-    match c {
-        Course::At { course, remainder } => CourseAt {
-            number: 0,
-            course,
-            remainder,
-        },
-        Course::Refused(n) => CourseAt {
-            number: n,
-            course: 0,
-            remainder: 0,
-        },
+impl From<Result<Course, Reason>> for CourseAt {
+    ghost from_gives = { λ at r. r ≡ course_numbers at };
+
+    fn from(at: Result<Course, Reason>) -> CourseAt {
+        match at {
+            Ok(Course { course, remainder }) => CourseAt {
+                number: 0,
+                course,
+                remainder,
+            },
+            Err(reason) => CourseAt {
+                number: reason.number(),
+                course: 0,
+                remainder: 0,
+            },
+        }
     }
 }
 
 // The refusal that a verdict tells. One with none of the four places tells no refusal, as one with the number 0 does.
-pub fn refusal_told(verdict: Verdict) -> Refusal
-    ensures { result ≡ refusal_told verdict }
-{
-    let number = verdict.number;
-    let place = verdict.place;
-    let at = verdict.at;
-    let arc = verdict.arc;
-    match place {
-        NOWHERE => Refusal {
-            number,
-            place: Place::Nowhere,
-        },
-        AT_ARC => Refusal {
-            number,
-            place: Place::AtArc(at, arc),
-        },
-        AT_STATE => Refusal {
-            number,
-            place: Place::AtState(at),
-        },
-        AT_FRAMES => Refusal {
-            number,
-            place: Place::AtFrames(at),
-        },
-        _ => Refusal {
-            number: 0,
-            place: Place::Nowhere,
-        },
-    }
-}
+impl From<Verdict> for Refusal {
+    ghost from_gives = { λ verdict r. r ≡ refusal_told verdict };
 
-pub fn line_count(written: Written) -> Count
-    ensures { result ≡ line_count written }
-{
-    match written {
-        Written::Length(n) => counted(n as u64),
-        Written::Refused(n) => no_count(n),
+    fn from(verdict: Verdict) -> Refusal {
+        let number = verdict.number;
+        let place = verdict.place;
+        let at = verdict.at;
+        let arc = verdict.arc;
+        match place {
+            NOWHERE => Refusal {
+                number,
+                place: Place::Nowhere,
+            },
+            AT_ARC => Refusal {
+                number,
+                place: Place::AtArc(at, arc),
+            },
+            AT_STATE => Refusal {
+                number,
+                place: Place::AtState(at),
+            },
+            AT_FRAMES => Refusal {
+                number,
+                place: Place::AtFrames(at),
+            },
+            _ => Refusal {
+                number: 0,
+                place: Place::Nowhere,
+            },
+        }
     }
 }
 
 // The number is 0 where the bytes are no refusal's line.
-pub fn line_verdict(read: Read) -> Verdict
-    ensures { result ≡ line_verdict read }
-{
-    match read {
-        Read::Line(why) => verdict_of(why),
-        Read::Nothing => accepted_verdict(),
+impl From<Option<Refusal>> for Verdict {
+    ghost from_gives = { λ read r. r ≡ line_verdict read };
+
+    fn from(read: Option<Refusal>) -> Verdict {
+        match read {
+            Some(why) => Verdict::from(why),
+            None => accepted_verdict(),
+        }
     }
 }

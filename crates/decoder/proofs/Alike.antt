@@ -1,5 +1,5 @@
 -- The answers of every list of calls are the definition's with the lent places, and so those of the copy that is told. Assumes nothing.
-use Rattle.std.specs.Prelude.{◌≡◌, ℕ, length}
+use Rattle.std.specs.Prelude.{◌≡◌, ℕ, length, Result, Ok}
 use Rattle.std.proofs.Math.Path.{refl, sym, ap₂, subst}
 use Rattle.std.proofs.Common.{ap, ◌∙◌, arith}
 use mathlib.Core.List.{List, [], ◌∷◌, ◌++◌}
@@ -20,14 +20,14 @@ use Rattle.reading_list.specs.Back.{list_back}
 use Rattle.decoder.specs.declared.Decoder.{Decoder}
 use Rattle.decoder.specs.declared.Called.{Called}
 use Rattle.decoder.specs.declared.Called.TheVariants.{Done, Refused}
-use Rattle.decoder.specs.declared.Fitted.{Fitted}
 use Rattle.decoder.specs.Represents.{LimitsAre, limits_by, limits_by_lem, exact, Represents, CalledBy, called_done, called_refused}
-use Rattle.decoder.specs.Promises.{Promised, fitted_by, FitIs, fit_graph, fit_unfit, fit_called, LeftOf, GapsLeft}
+use Rattle.decoder.specs.Promises.{Promised, FitIs, fit_graph, fit_unfit, fit_called, LeftOf, GapsLeft}
 use Rattle.decoder.specs.Capacity.{cap_fixed}
 use Rattle.decoder.specs.Keep.{keep_is, frames_is}
 use Rattle.decoder.specs.Behaves.{answer_of, value_of, Behaves, start_behaves, frame_behaves, keep_behaves, best_behaves, alternatives_behaves, readings_behaves, relative_behaves, active_behaves, frames_behaves, Runs, none_yet, one_more}
 use Rattle.decoder.proofs.Held.{fitting_held}
 use Rattle.decoder.specs.Demand3.{FittedAs, Fitting, settings, calls, told, AnswersLimited, AnswersAlike}
+use Rattle.refusals.specs.declared.Refusal.{Refusal}
 
 module _ (g : Graph) (c : Settings) (T : Tables) (eps : List ℕ) (places : ℕ) where
   -- decoder and stores stand for this state, with the limits of the decoder's own stores
@@ -88,14 +88,14 @@ first_follows F = go F.answered F.fit_is F.fitted
     Starts : Answer → Decoder → Type 0
     Starts a d = Follows F.graph (settings F) F.tables F.eps_after (length F.queue) (exact F.decoder (length F.queue), start_call) (fitted F.graph) a F.after d
 
-    on : (r : Called) → FittedAs (fitted_by r) F.first F.decoder → Starts (answer_of r) (value_of r) → Starts F.first F.decoder
+    on : (r : Called) → FittedAs (Ok r) F.first F.decoder → Starts (answer_of r) (value_of r) → Starts F.first F.decoder
     on (Done x) (e, q) S = subst (Starts F.first) (sym q) (subst (λ (y : Answer). Starts y x) (sym e) S)
     on (Refused x f) (e, q) S = subst (Starts F.first) (sym q) (subst (λ (y : Answer). Starts y x) (sym e) S)
 
     lent_limits : LimitsAre (exact F.decoder (length F.queue)) (record_places F.lengths) (length F.queue)
     lent_limits = subst (λ (j : ℕ). LimitsAre (exact F.decoder (length F.queue)) j (length F.queue)) (fitting_held F).cap_is (limits_by_lem F.decoder.cap (length F.queue))
 
-    go : (f : Fitted) → FitIs F.graph F.tables F.before F.after F.lengths F.queue F.queue_after F.eps F.eps_after F.config f → FittedAs f F.first F.decoder → Starts F.first F.decoder
+    go : (f : Result Called Refusal) → FitIs F.graph F.tables F.before F.after F.lengths F.queue F.queue_after F.eps F.eps_after F.config f → FittedAs f F.first F.decoder → Starts F.first F.decoder
     go f (fit_graph w a b e d) A = absurd A
     go f (fit_unfit a b e d i) A = absurd A
     go f (fit_called {r} a b k W e) A =

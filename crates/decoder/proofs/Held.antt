@@ -1,5 +1,5 @@
 -- What a caller holds from call to call meets what every call asks, and each call's contract hands it on. Assumes nothing.
-use Rattle.std.specs.Prelude.{◌≡◌, refl, ℕ, List, [], ◌∷◌, length, Float}
+use Rattle.std.specs.Prelude.{◌≡◌, refl, ℕ, List, [], ◌∷◌, length, Float, Result, Ok, Err}
 use Rattle.std.proofs.Common.{sym, subst}
 use mathlib.Core.List.Memᴰ.{head as here}
 use mathlib.Core.List.Memᴰ.{tail as there}
@@ -17,15 +17,14 @@ use Rattle.checks.specs.Margin.{asked}
 use Rattle.decoder.specs.declared.Decoder.{Decoder}
 use Rattle.decoder.specs.declared.Called.{Called}
 use Rattle.decoder.specs.declared.Called.TheVariants.{Done, Refused}
-use Rattle.decoder.specs.declared.Fitted.{Fitted}
-use Rattle.decoder.specs.declared.Fitted.TheVariants.{Unfit, Done as FitDone, Refused as FitRefused}
 use Rattle.decoder.specs.Represents.{LimitsAre, limits_by, limits_by_lem, CalledBy, called_done, called_refused}
-use Rattle.decoder.specs.Promises.{Promised, fitted_by, FitIs, fit_graph, fit_unfit, fit_called, LeftOf, Asked}
+use Rattle.decoder.specs.Promises.{Promised, FitIs, fit_graph, fit_unfit, fit_called, LeftOf, Asked}
 use Rattle.decoder.specs.Capacity.{cap_fixed}
 use Rattle.decoder.specs.Keep.{keep_is}
 use Rattle.decoder.specs.Behaves.{value_of, Behaves, start_behaves, frame_behaves, keep_behaves, best_behaves, alternatives_behaves, readings_behaves, relative_behaves, active_behaves, frames_behaves, Runs, none_yet, one_more}
 use Rattle.decoder.specs.Demand3.{FittedAs, CallsAsked, Fitting}
 use Rattle.decoder.specs.Held.{Held, HeldFitted}
+use Rattle.refusals.specs.declared.Refusal.{Refusal}
 
 module _ {T : Tables} {finals : List Float} {eps : List ℕ} {places : ℕ} {l : Lengths} where
   -- ---- it meets what the calls ask
@@ -91,13 +90,13 @@ module _ {T : Tables} {finals : List Float} {eps : List ℕ} {places : ℕ} {l :
   runs_held H none_yet = H
   runs_held H (one_more run B) = behaves_held (runs_held H run) B
 
-pub fit_held : {g : Graph} {T : Tables} {m m' : Lent} {l : Lengths} {qs qs' eps eps' : List ℕ} {c : Config} {f : Fitted} → FitIs g T m m' l qs qs' eps eps' c f → HeldFitted T m' g.finals eps' (length qs) l f
+pub fit_held : {g : Graph} {T : Tables} {m m' : Lent} {l : Lengths} {qs qs' eps eps' : List ℕ} {c : Config} {f : Result Called Refusal} → FitIs g T m m' l qs qs' eps eps' c f → HeldFitted T m' g.finals eps' (length qs) l f
 fit_held (fit_graph w a b e d) = tt
 fit_held (fit_unfit a b e d i) = tt
 fit_held {g} {T} {m' = m'} {l} {qs} {eps' = eps'} {c} (fit_called {r} a b k W e) =
     by r (called_held {l = l} (limits_by_lem (record_places l) (length qs)) refl (fit_roomy g c l b) (k (limits_by (record_places l) (length qs)) (limits_by_lem (record_places l) (length qs))))
   where
-    by : (r : Called) → Held T m' g.finals eps' (length qs) l (value_of r) → HeldFitted T m' g.finals eps' (length qs) l (fitted_by r)
+    by : (r : Called) → Held T m' g.finals eps' (length qs) l (value_of r) → HeldFitted T m' g.finals eps' (length qs) l (Ok r)
     by (Done d) H = H
     by (Refused d f) H = H
 
@@ -107,10 +106,10 @@ fitting_held F = go F.answered (fit_held F.fit_is) F.fitted
     Holds : Decoder → Type 0
     Holds = Held F.tables F.after F.graph.finals F.eps_after (length F.queue) F.lengths
 
-    go : (f : Fitted) → HeldFitted F.tables F.after F.graph.finals F.eps_after (length F.queue) F.lengths f → FittedAs f F.first F.decoder → Holds F.decoder
-    go (Unfit f) H A = absurd A
-    go (FitDone d) H (a, e) = subst Holds (sym e) H
-    go (FitRefused d f) H (a, e) = subst Holds (sym e) H
+    go : (f : Result Called Refusal) → HeldFitted F.tables F.after F.graph.finals F.eps_after (length F.queue) F.lengths f → FittedAs f F.first F.decoder → Holds F.decoder
+    go (Err f) H A = absurd A
+    go (Ok (Done d)) H (a, e) = subst Holds (sym e) H
+    go (Ok (Refused d f)) H (a, e) = subst Holds (sym e) H
 
 -- "each call gets the decoder and stores the last one left": and that is all that a call asks
 pub calls_asked : CallsAsked

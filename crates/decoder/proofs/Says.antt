@@ -1,5 +1,5 @@
 -- What the answers of a list of calls say: of the calls before each what the theorems on the copy say. Assumes nothing.
-use Rattle.std.specs.Prelude.{◌≡◌, refl, ℕ, suc, List, [], ◌∷◌, ◌++◌, length, get_or}
+use Rattle.std.specs.Prelude.{◌≡◌, refl, ℕ, suc, List, [], ◌∷◌, ◌++◌, length, get_or, Result}
 use Rattle.std.proofs.Common.{sym, ap, ◌∙◌, subst, arith, length-append}
 use Rattle.std.proofs.Math.Option.{some}
 use Rattle.model.specs.Graph.{Graph}
@@ -18,7 +18,6 @@ use Rattle.stores.specs.Rep.{Lent}
 use Rattle.checks.specs.Fit.{record_places, fit_beam}
 use Rattle.decoder.specs.declared.Decoder.{Decoder}
 use Rattle.decoder.specs.declared.Called.{Called}
-use Rattle.decoder.specs.declared.Fitted.{Fitted}
 use Rattle.decoder.specs.Represents.{limits_by_lem, exact, CalledBy, called_done, called_refused}
 use Rattle.decoder.specs.Promises.{FitIs, fit_graph, fit_unfit, fit_called}
 use Rattle.decoder.specs.Behaves.{none_yet, one_more}
@@ -26,6 +25,7 @@ use Rattle.decoder.proofs.Alike.{behaves_follows}
 use Rattle.decoder.proofs.Alike.{Follows, runs_limited, first_follows, decoder_limited, told_is}
 use Rattle.decoder.specs.Demand3.{FittedAs, Fitting, settings, RunsFrom, calls, Answered, RefusalsNumbered, StartsRefused, past, point, WordsOfOnePath, ReadingsDistinct, SegmentsTile, CostsLeast, AlternativesOwn, ReadingsTraced}
 use Rattle.decoder.specs.Says.{Known}
+use Rattle.refusals.specs.declared.Refusal.{Refusal}
 
 known : (F : Fitting) → Known F
 known F = go F.answered F.fit_is F.fitted
@@ -34,7 +34,7 @@ known F = go F.answered F.fit_is F.fitted
     floats (called_done fs e R) = R.fixed.floats
     floats (called_refused fs e R) = R.fixed.floats
 
-    go : (f : Fitted) → FitIs F.graph F.tables F.before F.after F.lengths F.queue F.queue_after F.eps F.eps_after F.config f → FittedAs f F.first F.decoder → Known F
+    go : (f : Result Called Refusal) → FitIs F.graph F.tables F.before F.after F.lengths F.queue F.queue_after F.eps F.eps_after F.config f → FittedAs f F.first F.decoder → Known F
     go f (fit_graph w a b e d) A = absurd A
     go f (fit_unfit a b e d i) A = absurd A
     go f (fit_called a b k W e) A = record { passed = a; floats = floats (k _ (limits_by_lem (record_places F.lengths) (length F.queue))); beam = fit_beam F.graph F.config F.lengths b }

@@ -1,5 +1,5 @@
 -- A start. Assumes nothing.
-use Rattle.std.specs.Prelude.{◌≡◌, ℕ, zero, suc, ◌+◌, ◌-◌, ◌*◌, ◌≤◌, ◌<◌, Bool, ltb, length, set, replicate, Float}
+use Rattle.std.specs.Prelude.{◌≡◌, ℕ, zero, suc, ◌+◌, ◌-◌, ◌*◌, ◌≤◌, ◌<◌, Bool, ltb, length, set, replicate, Float, Result, Ok, Err}
 use Rattle.std.proofs.Math.Path.{refl, ap, subst}
 use Rattle.std.proofs.Common.{sym, ◌∙◌, arith, length-set}
 use Rattle.std.proofs.Math.Bool.{true, false}
@@ -15,7 +15,7 @@ use Rattle.model.specs.Cutoff.{Config as Settings}
 use Rattle.model.specs.Arrive.{Here, Work as ModelWork}
 use Rattle.model.specs.Passes.{State, no_tokens, dropped, done, during, start_token, start_work, nonemitting_pass, start, fair_margin}
 use Rattle.model.specs.Calls.{start_call, said, call, Said}
-use Rattle.model.specs.Accepted.{Ok}
+use Rattle.model.specs.Accepted.{Ok as Accepted}
 use Rattle.copy_laws.specs.Tables.{vacant}
 use Rattle.copy_laws.proofs.Tables.{vacant_le}
 use Rattle.copy_laws.specs.States.{Standing}
@@ -30,11 +30,8 @@ use Rattle.stores.specs.Shown.{TokenIs, Shown, is_none}
 use Rattle.stores.specs.Tables.{shown_put, shown_aside, shown_cleared, shown_uncleared}
 use Rattle.stores.specs.Rep.{Lent, lent, Lens, store_of, room_as}
 use Rattle.refusals.specs.declared.Place.TheVariants.{Nowhere}
-use Rattle.arrivals.specs.Settled.{margin_in}
 use Rattle.arrivals.specs.Stood.{Stood}
 use Rattle.arcs.specs.declared.Work.{Work}
-use Rattle.arcs.specs.declared.Passed.{Passed}
-use Rattle.arcs.specs.declared.Passed.TheVariants.{Refused as NotPassed, On}
 use Rattle.arcs.specs.Passed.{Ground, going_of}
 use Rattle.arcs.specs.State.{Tables}
 use Rattle.arcs.specs.Ended.{EndedBy, ended_refused, ended_on}
@@ -42,7 +39,9 @@ use Rattle.nonemitting.specs.Pass.{NonemittingGiven, NonemittingIs}
 use Rattle.decoder.specs.declared.Decoder.{Decoder}
 use Rattle.decoder.specs.declared.Called.{Called}
 use Rattle.decoder.specs.declared.Called.TheVariants.{Done, Refused}
-use Rattle.decoder.specs.Represents.{setting_of, Fixed, Idle, Represents, CalledBy, called_done, called_refused}
+use Rattle.decoder.specs.Represents.{margin_in, setting_of, Fixed, Idle, Represents, CalledBy, called_done, called_refused}
+use Rattle.refusals.specs.declared.Reason.{Reason}
+use Rattle.refusals.specs.Numbers.{number_of, refused_at}
 
 -- ---- the values
 
@@ -68,7 +67,7 @@ pub record BothCleared (tk tk' : List ℕ) (n : ℕ) : Type 0 where
 pub record BeginGiven (g : Graph) (c : Settings) (l : Limits) (T : Tables) (m : Lent) (eps : List ℕ) (places : ℕ) (d : Decoder) (st : State) : Type 0 where
   pub fixed : Fixed g c l T m eps places d
   pub fair : fair_margin st.margin ≡ true
-  pub margin_is : st.margin ≡ margin_of (margin_in (setting_of d))
+  pub margin_is : st.margin ≡ margin_of (margin_in d)
   pub idle : Idle d
 
 pub record BeginAsks (T : Tables) (m : Lent) (eps : List ℕ) (places : ℕ) (d : Decoder) : Type 0 where
@@ -290,25 +289,25 @@ module _ {g : Graph} {c : Settings} {l : Limits} {T : Tables} {m : Lent} {eps : 
         ap (λ (b : Bool). elim b as (λ z. Outcome State) [ true ↦ ok (dropped g st) | false ↦ nonemitting_pass H (start_work g c) >>= λ v. ok (done st 0 v) ])
         (ne_eqb g.start no_state (λ q. somewhere (G.fixed.start_is ∙ q)))
 
-    module _ (m' : Lent) (L : Lens m m') (qs' : List ℕ) (r : Passed) (N : NonemittingIs (setting_of d₀) m₂ m' qs qs' eps T (start_work_of d) r) where
-      abbrev By : Outcome ModelWork → Passed → Type 0
+    module _ (m' : Lent) (L : Lens m m') (qs' : List ℕ) (r : Result Work Reason) (N : NonemittingIs (setting_of d₀) m₂ m' qs qs' eps T (start_work_of d) r) where
+      abbrev By : Outcome ModelWork → Result Work Reason → Type 0
       By = EndedBy (setting_of d₀) m' qs' (replicate d.graph.states none)
 
       ends : By (nonemitting_pass H (start_work g c)) r
       ends = (N pass_given).ends
 
-      pub begins_on : (x : Work) → r ≡ On x → (d' : Decoder) → d' ≡ turned_of d 0 x → CalledBy g c l T m' eps places (call g c l start_call st) (Done d')
+      pub begins_on : (x : Work) → r ≡ Ok x → (d' : Decoder) → d' ≡ turned_of d 0 x → CalledBy g c l T m' eps places (call g c l start_call st) (Done d')
       unfolding call
       begins_on x e d' z = subst (λ (y : Decoder). CalledBy g c l T m' eps places (call g c l start_call st) (Done y)) (sym z) (go (nonemitting_pass H (start_work g c)) refl (subst (By _) e ends))
         where
-          go : (o : Outcome ModelWork) → nonemitting_pass H (start_work g c) ≡ o → By o (On x) → CalledBy g c l T m' eps places (said (dropped g st) nowhere (start g c l st)) (Done (turned_of d₀ 0 x))
+          go : (o : Outcome ModelWork) → nonemitting_pass H (start_work g c) ≡ o → By o (Ok x) → CalledBy g c l T m' eps places (said (dropped g st) nowhere (start g c l st)) (Done (turned_of d₀ 0 x))
           go o q (ended_on {w = v} p A) =
               let begun : start g c l st ≡ ok (done st 0 v) = start_is ∙ ap (λ (o : Outcome ModelWork). o >>= λ v. ok (done st 0 v)) q in
               subst (λ (o : Outcome State). CalledBy g c l T m' eps places (said (dropped g st) nowhere o) (Done (turned_of d₀ 0 x))) (sym begun)
               (called_done [] refl
               (record {
                 fixed = fixed_as m' L (1 - d.side) 0 x.seq x.used (other_side d.side G.fixed.side);
-                standing = subst (Ok (Standing g [])) begun (start_standing g G.fixed.good G.fixed.floats c l st G.fair);
+                standing = subst (Accepted (Standing g [])) begun (start_standing g G.fixed.good G.fixed.floats c l st G.fair);
                 margin_is = G.margin_is;
                 idle = G.idle;
                 frames_are = refl;
@@ -320,16 +319,16 @@ module _ {g : Graph} {c : Settings} {l : Limits} {T : Tables} {m : Lent} {eps : 
                 newest = A.stood.rep.newest;
               }))
 
-      pub begins_refused : (n : ℕ) → r ≡ NotPassed n → (tk : List ℕ) → length tk ≡ length m'.tokens → BothCleared m'.tokens tk d.graph.states
-          → (d' : Decoder) → d' ≡ d₀ → CalledBy g c l T (lent tk m'.sums m'.records m'.labels m'.gaps) eps places (call g c l start_call st) (Refused d' (record { number = n; place = Nowhere }))
+      pub begins_refused : (e : Reason) → r ≡ Err e → (tk : List ℕ) → length tk ≡ length m'.tokens → BothCleared m'.tokens tk d.graph.states
+          → (d' : Decoder) → d' ≡ d₀ → CalledBy g c l T (lent tk m'.sums m'.records m'.labels m'.gaps) eps places (call g c l start_call st) (Refused d' (refused_at e Nowhere))
       unfolding call
-      begins_refused n e tk k B' d' z =
-          subst (λ (y : Decoder). CalledBy g c l T (lent tk m'.sums m'.records m'.labels m'.gaps) eps places (call g c l start_call st) (Refused y (record { number = n; place = Nowhere }))) (sym z)
-          (go (nonemitting_pass H (start_work g c)) refl (subst (By _) e ends))
+      begins_refused e is tk k B' d' z =
+          subst (λ (y : Decoder). CalledBy g c l T (lent tk m'.sums m'.records m'.labels m'.gaps) eps places (call g c l start_call st) (Refused y (refused_at e Nowhere))) (sym z)
+          (go (nonemitting_pass H (start_work g c)) refl (subst (By _) is ends))
         where
-          go : (o : Outcome ModelWork) → nonemitting_pass H (start_work g c) ≡ o → By o (NotPassed n) → CalledBy g c l T (lent tk m'.sums m'.records m'.labels m'.gaps) eps places (said (dropped g st) nowhere (start g c l st)) (Refused d₀ (record { number = n; place = Nowhere }))
-          go o q (ended_refused j z old) =
-              let begun : start g c l st ≡ refused n = start_is ∙ ap (λ (o : Outcome ModelWork). o >>= λ v. ok (done st 0 v)) q in
-              subst (λ (o : Outcome State). CalledBy g c l T (lent tk m'.sums m'.records m'.labels m'.gaps) eps places (said (dropped g st) nowhere o) (Refused d₀ (record { number = n; place = Nowhere }))) (sym begun)
+          go : (o : Outcome ModelWork) → nonemitting_pass H (start_work g c) ≡ o → By o (Err e) → CalledBy g c l T (lent tk m'.sums m'.records m'.labels m'.gaps) eps places (said (dropped g st) nowhere (start g c l st)) (Refused d₀ (refused_at e Nowhere))
+          go o q (ended_refused j old) =
+              let begun : start g c l st ≡ refused (number_of e) = start_is ∙ ap (λ (o : Outcome ModelWork). o >>= λ v. ok (done st 0 v)) q in
+              subst (λ (o : Outcome State). CalledBy g c l T (lent tk m'.sums m'.records m'.labels m'.gaps) eps places (said (dropped g st) nowhere o) (Refused d₀ (refused_at e Nowhere))) (sym begun)
               (called_refused [] refl
               (emptied_is (lent tk m'.sums m'.records m'.labels m'.gaps) (record { tokens = k ∙ L.tokens; sums = L.sums; records = L.records; labels = L.labels; gaps = L.gaps }) m'.tokens B'))

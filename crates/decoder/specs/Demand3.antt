@@ -1,5 +1,5 @@
 -- Demand 3, sentence by sentence: the statements alone. They are proved in `Held`, `Alike` and `Says`.
-use Rattle.std.specs.Prelude.{◌≡◌, ◌⊎◌, ℕ, Bool, List, [], ◌∷◌, ℤ, length}
+use Rattle.std.specs.Prelude.{◌≡◌, ◌⊎◌, ℕ, Bool, List, [], ◌∷◌, ℤ, length, Result, Ok, Err}
 use Rattle.std.proofs.Math.Option.{Option, some}
 use Rattle.lists.specs.Lists.{◌∈◌}
 use Rattle.lists.specs.Count.{Nodup}
@@ -20,19 +20,20 @@ use Rattle.stores.specs.Rep.{Lent}
 use Rattle.arcs.specs.State.{Tables}
 use Rattle.checks.specs.declared.Lengths.{Lengths}
 use Rattle.decoder.specs.declared.Decoder.{Decoder}
-use Rattle.decoder.specs.declared.Fitted.{Fitted}
-use Rattle.decoder.specs.declared.Fitted.TheVariants.{Unfit, Done, Refused}
 use Rattle.decoder.specs.Represents.{exact, refusal_of}
 use Rattle.decoder.specs.Promises.{FitIs, Asked}
 use Rattle.decoder.specs.Behaves.{Behaves, Runs}
+use Rattle.decoder.specs.declared.Called.{Called}
+use Rattle.decoder.specs.declared.Called.TheVariants.{Done, Refused}
+use Rattle.refusals.specs.declared.Refusal.{Refusal as StoredRefusal}
 
 -- ---- "from a newly fitted decoder"
 
 -- of a fitting that 1 to 6 do not refuse: the answer of its own start, and the decoder
-abbrev pub FittedAs : Fitted → Answer → Decoder → Type 0
-FittedAs (Unfit f) a d = ⊥
-FittedAs (Done x) a d = (a ≡ done_answer) × (d ≡ x)
-FittedAs (Refused x f) a d = (a ≡ refusal_answer (refusal_of f)) × (d ≡ x)
+abbrev pub FittedAs : Result Called StoredRefusal → Answer → Decoder → Type 0
+FittedAs (Err f) a d = ⊥
+FittedAs (Ok (Done x)) a d = (a ≡ done_answer) × (d ≡ x)
+FittedAs (Ok (Refused x f)) a d = (a ≡ refusal_answer (refusal_of f)) × (d ≡ x)
 
 -- what was lent and what a fitting left; it met its contract
 pub record Fitting : Type 0 where
@@ -46,7 +47,7 @@ pub record Fitting : Type 0 where
   pub eps : List ℕ
   pub eps_after : List ℕ
   pub config : Config
-  pub answered : Fitted
+  pub answered : Result Called StoredRefusal
   pub first : Answer
   pub decoder : Decoder
   pub fit_is : FitIs graph tables before after lengths queue queue_after eps eps_after config answered

@@ -1,5 +1,5 @@
 -- The fitter. Assumes nothing.
-use Rattle.std.specs.Prelude.{◌≡◌, refl, ℕ, ◌+◌, ◌-◌, ◌/◌, ◌≤◌, Bool, true, false, ◌||◌, List, [], ◌∷◌, ◌++◌, T, ltb, length, get_or, drop, Float}
+use Rattle.std.specs.Prelude.{◌≡◌, refl, ℕ, ◌+◌, ◌-◌, ◌/◌, ◌≤◌, Bool, true, false, ◌||◌, List, [], ◌∷◌, ◌++◌, T, ltb, length, get_or, drop, Float, Result, Ok, Err}
 use Rattle.std.proofs.Common.{sym, ap, ◌∙◌, subst, arith}
 use Rattle.std.proofs.Math.Option.{Option, none, some}
 use mathlib.Core.List.Memᴰ.{head as here}
@@ -20,7 +20,6 @@ use Rattle.cutoff.specs.Costs.{config_of}
 use Rattle.stores.specs.Rep.{Lent, Lens, Places}
 use Rattle.fst.specs.declared.Graph.{Graph as Value}
 use Rattle.refusals.specs.declared.Refusal.{Refusal}
-use Rattle.fst.specs.declared.Built.TheVariants.{Accepted, Refused as NotBuilt}
 use Rattle.fst.specs.Answer.{build_of, built_of, value_of, refusal_of, was_accepted}
 use Rattle.fst.specs.Epsilons.{EpsFilled, eps_bits, eps_at, bit}
 use Rattle.checks.specs.declared.Lengths.{Lengths}
@@ -29,10 +28,8 @@ use Rattle.arcs.specs.declared.Pass.TheVariants.{Nonemitting}
 use Rattle.arcs.specs.State.{Tables, TablesOf}
 use Rattle.decoder.specs.declared.Decoder.{Decoder}
 use Rattle.decoder.specs.declared.Called.{Called}
-use Rattle.decoder.specs.declared.Fitted.{Fitted}
-use Rattle.decoder.specs.declared.Fitted.TheVariants.{Unfit}
 use Rattle.decoder.specs.Represents.{LimitsAre, limits_by, limits_by_lem}
-use Rattle.decoder.specs.Promises.{Behind, unfit, fitted_by, FitIs, fit_graph, fit_unfit, fit_called}
+use Rattle.decoder.specs.Promises.{Behind, unfit, FitIs, fit_graph, fit_unfit, fit_called}
 use Rattle.decoder.specs.Begin.{BeginGiven, BeginAsks, BeginIs}
 
 abbrev pub new_decoder : Value → Config → (cap : ℕ) → Decoder
@@ -83,16 +80,16 @@ bit_test false = refl
 
 -- ---- a graph that is refused
 
-pub graph_refused : (g : Graph) (T : Tables) (m : Lent) (l : Lengths) (qs eps : List ℕ) (c : Config) (f : Refusal) → NotBuilt f ≡ build_of g → FitIs g T m m l qs qs eps eps c (Unfit f)
+pub graph_refused : (g : Graph) (T : Tables) (m : Lent) (l : Lengths) (qs eps : List ℕ) (c : Config) (f : Refusal) → Err f ≡ build_of g → FitIs g T m m l qs qs eps eps c (Err f)
 graph_refused g T m l qs eps c f e = go (check_graph g) refl e
   where
-    go : (o : Option ModelRefusal) → check_graph g ≡ o → NotBuilt f ≡ built_of g o → FitIs g T m m l qs qs eps eps c (Unfit f)
+    go : (o : Option ModelRefusal) → check_graph g ≡ o → Err f ≡ built_of g o → FitIs g T m m l qs qs eps eps c (Err f)
     go none q b = let z : ◌≡◌ {A = ℕ} 0 1 = cc in absurd (omega arith)
-    go (some w) q b = let z : f ≡ refusal_of w = cc in subst (λ (y : Refusal). FitIs g T m m l qs qs eps eps c (Unfit y)) (sym z) (fit_graph w q refl refl refl)
+    go (some w) q b = let z : f ≡ refusal_of w = cc in subst (λ (y : Refusal). FitIs g T m m l qs qs eps eps c (Err y)) (sym z) (fit_graph w q refl refl refl)
 
 -- ---- a graph that is built
 
-module _ (g : Graph) (T : Tables) (m : Lent) (l : Lengths) (qs eps : List ℕ) (c : Config) (v : Value) (built : Accepted v ≡ build_of g) where
+module _ (g : Graph) (T : Tables) (m : Lent) (l : Lengths) (qs eps : List ℕ) (c : Config) (v : Value) (built : Ok v ≡ build_of g) where
   accepted : check_graph g ≡ none
   accepted = (was_accepted g v built).0
 
@@ -105,8 +102,8 @@ module _ (g : Graph) (T : Tables) (m : Lent) (l : Lengths) (qs eps : List ℕ) (
   states_are : v.states ≡ states g
   states_are = ap (λ (x : Value). x.states) value_is
 
-  pub fit_refused : (config_wrong c || stores_wrong v.states l) ≡ true → (f : Refusal) → f ≡ unfit → FitIs g T m m l qs qs eps eps c (Unfit f)
-  fit_refused e f is = subst (λ (y : Refusal). FitIs g T m m l qs qs eps eps c (Unfit y)) (sym is) (fit_unfit accepted (go (config_wrong c) refl (ap (λ (n : ℕ). config_wrong c || stores_wrong n l) (sym states_are) ∙ e)) refl refl refl)
+  pub fit_refused : (config_wrong c || stores_wrong v.states l) ≡ true → (f : Refusal) → f ≡ unfit → FitIs g T m m l qs qs eps eps c (Err f)
+  fit_refused e f is = subst (λ (y : Refusal). FitIs g T m m l qs qs eps eps c (Err y)) (sym is) (fit_unfit accepted (go (config_wrong c) refl (ap (λ (n : ℕ). config_wrong c || stores_wrong n l) (sym states_are) ∙ e)) refl refl refl)
     where
       go : (b : Bool) → config_wrong c ≡ b → (b || stores_wrong (states g) l) ≡ true → check_fit g (config_of c) (places_of (states g) l) ≡ some 6
       go true q d = config_refused g c l q
@@ -173,7 +170,7 @@ module _ (g : Graph) (T : Tables) (m : Lent) (l : Lengths) (qs eps : List ℕ) (
       eps_are : eps' ≡ eps_bits g (states g) ++ drop (states g) eps
       eps_are = let e : length g.offsets - 1 ≡ states g = let z = good.shape.offsets in omega arith in filled.filled g refl refl ∙ ap (λ (n : ℕ). eps_bits g n ++ drop n eps) e
 
-      pub fit_called_lem : (d : Decoder) → d ≡ new → (m' : Lent) (qs' : List ℕ) (r : Called) → (BeginIs T m m' eps' (length qs) d r) × (Behind d.graph.states d.cap m m') → Lens m m' → length qs' ≡ length qs → (f : Fitted) → f ≡ fitted_by r → FitIs g T m m' l qs qs' eps eps' c f
+      pub fit_called_lem : (d : Decoder) → d ≡ new → (m' : Lent) (qs' : List ℕ) (r : Called) → (BeginIs T m m' eps' (length qs) d r) × (Behind d.graph.states d.cap m m') → Lens m m' → length qs' ≡ length qs → (f : Result Called Refusal) → f ≡ Ok r → FitIs g T m m' l qs qs' eps eps' c f
       fit_called_lem d e m' qs' r (B, past) L long f q =
           subst (FitIs g T m m' l qs qs' eps eps' c) (sym q)
           (fit_called accepted (fit_accepted g c l no.0 no.1) (λ lim L. subst (λ (y : Decoder). BeginIs T m m' eps' (length qs) y r) e B g (config_of c) lim (fitted g) (begin_given lim L)) (record { stores = L; behind = behind; queue = record { same_length = long } }) eps_are)

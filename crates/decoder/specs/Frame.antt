@@ -1,15 +1,16 @@
 -- A frame. Assumes nothing.
-use Rattle.std.specs.Prelude.{◌≡◌, ◌⊎◌, Bool, true, false, not, ◌&&◌, cond, List, [], ◌∷◌, ◌++◌, leb, ltb, eqb, length, get_or, Float}
+use Rattle.std.specs.Prelude.{max, ◌≡◌, ◌⊎◌, Bool, true, false, not, ◌&&◌, cond, List, [], ◌∷◌, ◌++◌, leb, ltb, eqb, length, get_or, Float, Result, Ok, Err}
 use Rattle.std.proofs.Math.Path.{refl, ap, subst}
 use Rattle.std.proofs.Common.{sym, ◌∙◌, subst₂, inl, inr, mul-le-mul_right}
 use Prim.Native.Nat.{ℕ, suc, ◌+◌, ◌-◌, ◌*◌, ◌^◌, ◌≤◌, ◌<◌}
 use native.Mathlib.Omega.{arith}
+use Rattle.std.proofs.Math.Nat.{max-eq_left, max-eq_right}
 use Rattle.std.proofs.Math.Option.{Option, none, some}
 use mathlib.Core.List.Memᴰ.{head as here}
 use mathlib.Core.List.Memᴰ.{tail as there}
 use Rattle.std.proofs.Math.Dec.{T}
 use Rattle.lists.specs.Lists.{◌∈◌, all}
-use Rattle.lists.specs.Tests.{below_more, holds}
+use Rattle.lists.specs.Tests.{below_more, holds, case, lt_or_le}
 use Rattle.real32.specs.Small.{tame}
 use Rattle.model.specs.Basics.{first_of, refuse, at_frames, over, Outcome, ok, refused, ◌>>=◌}
 use Rattle.model.specs.Graph.{Graph, states}
@@ -18,7 +19,7 @@ use Rattle.model.specs.Cutoff.{Config as Settings}
 use Rattle.model.specs.Arrive.{Here, Work as ModelWork}
 use Rattle.model.specs.Passes.{State, done, emitting_pass, nonemitting_pass, check_frame, frame}
 use Rattle.model.specs.Calls.{frame_call, Answer, refusal_answer, said, call, Said}
-use Rattle.model.specs.Accepted.{Ok}
+use Rattle.model.specs.Accepted.{Ok as Accepted}
 use Rattle.model.proofs.Accepted.{weaken}
 use Rattle.copy_laws.specs.Walks.{Heard}
 use Rattle.copy_laws.specs.Tables.{At as TokenAt}
@@ -39,19 +40,19 @@ use Rattle.stores.specs.Rep.{Lent, Lens, store_of}
 use Rattle.refusals.specs.declared.Place.TheVariants.{AtFrames}
 use Rattle.arrivals.specs.declared.Setting.{Setting}
 use Rattle.arcs.specs.declared.Work.{Work}
-use Rattle.arcs.specs.declared.Passed.{Passed}
-use Rattle.arcs.specs.declared.Passed.TheVariants.{Refused as NotPassed, On}
 use Rattle.arcs.specs.Passed.{Ground, At}
 use Rattle.arcs.specs.Ended.{EndedBy, ended_refused, ended_on}
 use Rattle.arcs.specs.State.{Tables, tables}
 use Rattle.emitting.specs.Whole.{PassGiven, EmittingIs}
 use Rattle.nonemitting.specs.Pass.{NonemittingGiven, NonemittingIs}
-use Rattle.checks.specs.Frame.{number_of, frame_number}
+use Rattle.checks.specs.Frame.{number_of as number_or, frame_number}
 use Rattle.decoder.specs.declared.Decoder.{Decoder}
 use Rattle.decoder.specs.declared.Called.{Called}
 use Rattle.decoder.specs.declared.Called.TheVariants.{Done, Refused}
 use Rattle.decoder.specs.Represents.{setting_of, Represents, CalledBy, called_done, called_refused}
 use Rattle.decoder.specs.Begin.{moved_to, turned_of, back_side, other_side, fixed_moved, none_newer, BeginGiven}
+use Rattle.refusals.specs.declared.Reason.{Reason}
+use Rattle.refusals.specs.Numbers.{number_of, refused_at}
 
 -- ---- the two passes
 
@@ -62,29 +63,29 @@ unheard T = let p = T.arcs in tables T.offsets p.ilabels p.olabels p.weights p.n
 -- what is given to the emitting pass, which leaves no queue
 pub record RunGiven (g : Setting) (m : Lent) (qs eps : List ℕ) (T : Tables) (c : Config) (used seq : ℕ) : Type 0 where
   pub pass : PassGiven g m qs eps T used seq
-  pub idle : Ok (λ w. (w.queue ≡ []) × (w.requeued ≡ [])) (emitting_pass pass.H (config_of c) T.arcs.loglikes pass.done seq pass.fresh)
+  pub idle : Accepted (λ w. (w.queue ≡ []) × (w.requeued ≡ [])) (emitting_pass pass.H (config_of c) T.arcs.loglikes pass.done seq pass.fresh)
 
 abbrev pub run_of : Here → Settings → List Float → Table → (seq fresh : ℕ) → Outcome ModelWork
 run_of H c ls ts q n = emitting_pass H c ls ts q n >>= λ w. nonemitting_pass H w
 
-abbrev pub RunIs : (g : Setting) → (m m' : Lent) → (qs qs' eps : List ℕ) → Tables → Config → (used seq : ℕ) → Passed → Type 0
+abbrev pub RunIs : (g : Setting) → (m m' : Lent) → (qs qs' eps : List ℕ) → Tables → Config → (used seq : ℕ) → Result Work Reason → Type 0
 RunIs g m m' qs qs' eps T c used seq r = (G : RunGiven g m qs eps T c used seq) → EndedBy g m' qs' G.pass.done (run_of G.pass.H (config_of c) T.arcs.loglikes G.pass.done seq G.pass.fresh) r
 
 module _ {g : Setting} {m : Lent} {qs eps : List ℕ} {T : Tables} {c : Config} {used seq : ℕ} (G : RunGiven g m qs eps T c used seq) where
   abbrev emits : Outcome ModelWork
   emits = emitting_pass G.pass.H (config_of c) T.arcs.loglikes G.pass.done seq G.pass.fresh
 
-  module _ (m' : Lent) (qs' : List ℕ) (r : Passed) (E : EmittingIs g m m' qs qs' eps T c used seq r) where
-    abbrev By : Lent → List ℕ → Outcome ModelWork → Passed → Type 0
+  module _ (m' : Lent) (qs' : List ℕ) (r : Result Work Reason) (E : EmittingIs g m m' qs qs' eps T c used seq r) where
+    abbrev By : Lent → List ℕ → Outcome ModelWork → Result Work Reason → Type 0
     By m qs = EndedBy g m qs G.pass.done
 
-    pub run_stops : (n : ℕ) → r ≡ NotPassed n → By m' qs' (emits >>= λ w. nonemitting_pass G.pass.H w) (NotPassed n)
-    run_stops n e = go emits (subst (By m' qs' emits) e (E G.pass))
+    pub run_stops : (z : Reason) → r ≡ Err z → By m' qs' (emits >>= λ w. nonemitting_pass G.pass.H w) (Err z)
+    run_stops z e = go emits (subst (By m' qs' emits) e (E G.pass))
       where
-        go : (o : Outcome ModelWork) → By m' qs' o (NotPassed n) → By m' qs' (o >>= λ w. nonemitting_pass G.pass.H w) (NotPassed n)
-        go o (ended_refused j d z) = ended_refused n d z
+        go : (o : Outcome ModelWork) → By m' qs' o (Err z) → By m' qs' (o >>= λ w. nonemitting_pass G.pass.H w) (Err z)
+        go o (ended_refused j old) = ended_refused z old
 
-    module _ (x : Work) (e : r ≡ On x) (long : length qs' ≡ length qs) where
+    module _ (x : Work) (e : r ≡ Ok x) (long : length qs' ≡ length qs) where
       -- the work that the emitting pass leaves
       pub record Emitted : Type 0 where
         pub w : ModelWork
@@ -95,11 +96,11 @@ module _ {g : Setting} {m : Lent} {qs eps : List ℕ} {T : Tables} {c : Config} 
       pub emitted : Emitted
       emitted = go emits refl (subst (By m' qs' emits) e (E G.pass))
         where
-          go : (o : Outcome ModelWork) → emits ≡ o → By m' qs' o (On x) → Emitted
+          go : (o : Outcome ModelWork) → emits ≡ o → By m' qs' o (Ok x) → Emitted
           go o q (ended_on {w = w} p A) = record { w = w; p = p; is = q; at = A }
 
       pub none_waits : (emitted.w.queue ≡ []) × (emitted.w.requeued ≡ [])
-      none_waits = subst (Ok (λ w. (w.queue ≡ []) × (w.requeued ≡ []))) emitted.is G.idle
+      none_waits = subst (Accepted (λ w. (w.queue ≡ []) × (w.requeued ≡ []))) emitted.is G.idle
 
       abbrev pub run_given : NonemittingGiven g m' qs' eps (unheard T) x
       run_given =
@@ -116,7 +117,7 @@ module _ {g : Setting} {m : Lent} {qs eps : List ℕ} {T : Tables} {c : Config} 
             none_requeued = none_waits.1;
           }
 
-      pub run_ends : (m'' : Lent) (qs'' : List ℕ) (r' : Passed) → NonemittingIs g m' m'' qs' qs'' eps (unheard T) x r' → By m'' qs'' (emits >>= λ w. nonemitting_pass G.pass.H w) r'
+      pub run_ends : (m'' : Lent) (qs'' : List ℕ) (r' : Result Work Reason) → NonemittingIs g m' m'' qs' qs'' eps (unheard T) x r' → By m'' qs'' (emits >>= λ w. nonemitting_pass G.pass.H w) r'
       run_ends m'' qs'' r' N = subst (λ (o : Outcome ModelWork). By m'' qs'' (o >>= λ w. nonemitting_pass G.pass.H w) r') (sym emitted.is) (N run_given).ends
 
 -- ---- what the copy's invariant gives the passes
@@ -191,6 +192,13 @@ module _ {h : ℕ → History} {used : ℕ} {tk : List ℕ} {sm : List Float} {b
 pub newest_none : (tk : List ℕ) (sm : List Float) (b : ℕ) → NewestIs tk sm b 0 0
 newest_none tk sm b = record { covers = λ s l. absurd (omega arith); some_link = inl refl }
 
+-- the greater of two is one of them
+pub one_of : (r l k : ℕ) → k ≡ max r l → (r ≤ k) × (l ≤ k) × ((k ≡ r) ⊎ (k ≡ l))
+one_of r l k m =
+    case (lt_or_le r l)
+    (λ h. let e = m ∙ max-eq_right (omega arith) in (omega arith, omega arith, inr e))
+    (λ h. let e = m ∙ max-eq_left h in (omega arith, omega arith, inl e))
+
 pub newest_more : (tk : List ℕ) (sm : List Float) (b n r k : ℕ) → NewestIs tk sm b n r → (x : Stored) → x ≡ token_of (cell_at tk sm (place_in b n)) → (r ≤ k) × (x.link ≤ k) × ((k ≡ r) ⊎ (k ≡ x.link)) → NewestIs tk sm b (n + 1) k
 newest_more tk sm b n r k N x e (up, over-it, one) =
     record { covers = below_more (λ s. (token_of (cell_at tk sm (place_in b s))).link ≤ k) n (λ s l. let z = N.covers s l in omega arith) (subst (λ (y : Stored). y.link ≤ k) e over-it); some_link = go one N.some_link }
@@ -227,7 +235,7 @@ module _ {g : Graph} {c : Settings} {l : Limits} {T : Tables} {m : Lent} {eps : 
   unfolding check_frame
   check_is = λ k. checked (R.frames_are k) (sym R.fixed.pdfs_are k)
 
-  named : (a b t : Bool) → let o = first_of (refuse 10 a ∷ refuse 8 b ∷ refuse 9 t ∷ []) in (number_of o ≡ 0 → o ≡ none) × ((number_of o ≡ 0 → ⊥) → o ≡ some (number_of o))
+  named : (a b t : Bool) → let o = first_of (refuse 10 a ∷ refuse 8 b ∷ refuse 9 t ∷ []) in (number_or o ≡ 0 → o ≡ none) × ((number_or o ≡ 0 → ⊥) → o ≡ some (number_or o))
   named true b t = (λ e. absurd (omega arith), λ e. refl)
   named false true t = (λ e. absurd (omega arith), λ e. refl)
   named false false true = (λ e. absurd (omega arith), λ e. refl)
@@ -334,14 +342,14 @@ module _ {g : Graph} {c : Settings} {l : Limits} {T : Tables} {m : Lent} {eps : 
             fine = fine_is g fs st.table st.seq st.fresh R.standing.active;
           }
 
-      emits_idle : Ok (λ w. (w.queue ≡ []) × (w.requeued ≡ [])) (emitting_pass H c ls st.table st.seq st.fresh)
+      emits_idle : Accepted (λ w. (w.queue ≡ []) × (w.requeued ≡ [])) (emitting_pass H c ls st.table st.seq st.fresh)
       emits_idle =
           weaken (Since g (fs ++ (hearing ls st.table ∷ [])) st.fresh) (λ w. (w.queue ≡ []) × (w.requeued ≡ [])) (emitting_pass H c ls st.table st.seq st.fresh) (λ w s. (s.no_queue, s.none_requeued))
           (emitting_active H c ls st.table st.seq st.fresh fs R.fixed.good R.fixed.floats R.standing.frames R.standing.active)
 
       -- the decoder's settings and seq are the copy's
-      pub idle_now : Ok (λ w. (w.queue ≡ []) × (w.requeued ≡ [])) (emitting_pass H (config_of d.config) ls st.table d.seq st.fresh)
-      idle_now = subst₂ (λ (k : Settings) (q : ℕ). Ok (λ w. (w.queue ≡ []) × (w.requeued ≡ [])) (emitting_pass H k ls st.table q st.fresh)) (sym R.fixed.config_is) R.seq_is emits_idle
+      pub idle_now : Accepted (λ w. (w.queue ≡ []) × (w.requeued ≡ [])) (emitting_pass H (config_of d.config) ls st.table d.seq st.fresh)
+      idle_now = subst₂ (λ (k : Settings) (q : ℕ). Accepted (λ w. (w.queue ≡ []) × (w.requeued ≡ [])) (emitting_pass H k ls st.table q st.fresh)) (sym R.fixed.config_is) R.seq_is emits_idle
 
       abbrev asks : RunGiven (setting_of d) m qs eps (heard_by T ls) d.config d.used d.seq
       asks = record { pass = pass_given; idle = idle_now }
@@ -349,8 +357,8 @@ module _ {g : Graph} {c : Settings} {l : Limits} {T : Tables} {m : Lent} {eps : 
       pub run_asks : (s : Setting) → s ≡ setting_of d → (k : Config) → k ≡ d.config → RunGiven s m qs eps (heard_by T ls) k d.used d.seq
       run_asks s s-is k k-is = subst₂ (λ (s : Setting) (k : Config). RunGiven s m qs eps (heard_by T ls) k d.used d.seq) (sym s-is) (sym k-is) asks
 
-      module _ (s : Setting) (s-is : s ≡ setting_of d) (cf : Config) (cf-is : cf ≡ d.config) (m' : Lent) (L : Lens m m') (qs' : List ℕ) (r : Passed) (run : RunIs s m m' qs qs' eps (heard_by T ls) cf d.used d.seq r) where
-        abbrev Ends : Outcome ModelWork → Passed → Type 0
+      module _ (s : Setting) (s-is : s ≡ setting_of d) (cf : Config) (cf-is : cf ≡ d.config) (m' : Lent) (L : Lens m m') (qs' : List ℕ) (r : Result Work Reason) (run : RunIs s m m' qs qs' eps (heard_by T ls) cf d.used d.seq r) where
+        abbrev Ends : Outcome ModelWork → Result Work Reason → Type 0
         Ends = EndedBy (setting_of d) m' qs' st.table
 
         ran : RunIs (setting_of d) m m' qs qs' eps (heard_by T ls) d.config d.used d.seq r
@@ -362,21 +370,21 @@ module _ {g : Graph} {c : Settings} {l : Limits} {T : Tables} {m : Lent} {eps : 
         framed : Outcome ModelWork → Said
         framed o = said st (at_frames st.frames) (o >>= λ v. ok (done st (suc st.frames) v))
 
-        pub frame_on : (x : Work) → r ≡ On x → (d' : Decoder) → d' ≡ turned_of d (d.frames + 1) x → CalledBy g c l T m' eps places (call g c l (frame_call ls) st) (Done d')
+        pub frame_on : (x : Work) → r ≡ Ok x → (d' : Decoder) → d' ≡ turned_of d (d.frames + 1) x → CalledBy g c l T m' eps places (call g c l (frame_call ls) st) (Done d')
         unfolding framed
         frame_on x q d' z = subst (λ (y : Decoder). CalledBy g c l T m' eps places (call g c l (frame_call ls) st) (Done y)) (sym z) (go (run_of H c ls st.table st.seq st.fresh) refl (subst (Ends _) q ends))
           where
             next : d.frames + 1 ≡ suc st.frames
             next = let k = R.frames_are in omega arith
 
-            go : (o : Outcome ModelWork) → run_of H c ls st.table st.seq st.fresh ≡ o → Ends o (On x) → CalledBy g c l T m' eps places (call g c l (frame_call ls) st) (Done (turned_of d (d.frames + 1) x))
+            go : (o : Outcome ModelWork) → run_of H c ls st.table st.seq st.fresh ≡ o → Ends o (Ok x) → CalledBy g c l T m' eps places (call g c l (frame_call ls) st) (Done (turned_of d (d.frames + 1) x))
             go o b (ended_on {w = v} p A) =
                 let made : frame g c l ls st ≡ ok (done st (suc st.frames) v) = frame_is ∙ ap (λ (o : Outcome ModelWork). o >>= λ v. ok (done st (suc st.frames) v)) b in
                 subst (λ (s : Said). CalledBy g c l T m' eps places s (Done (turned_of d (d.frames + 1) x))) (sym (runs ∙ ap framed b))
                 (called_done (fs ++ (hearing ls st.table ∷ [])) refl
                 (record {
                   fixed = fixed_moved R.fixed m' L (1 - d.side) (d.frames + 1) x.seq x.used (other_side d.side R.fixed.side);
-                  standing = subst (Ok (Standing g (fs ++ (hearing ls st.table ∷ [])))) made (frame_standing g R.fixed.good R.fixed.floats c l st fs ls R.standing);
+                  standing = subst (Accepted (Standing g (fs ++ (hearing ls st.table ∷ [])))) made (frame_standing g R.fixed.good R.fixed.floats c l st fs ls R.standing);
                   margin_is = R.margin_is;
                   idle = R.idle;
                   frames_are = sym next;
@@ -388,17 +396,17 @@ module _ {g : Graph} {c : Settings} {l : Limits} {T : Tables} {m : Lent} {eps : 
                   newest = A.stood.rep.newest;
                 }))
 
-        pub frame_back : (n : ℕ) → r ≡ NotPassed n → (b : Decoder) → BackIs m'.tokens m'.sums d b → (r' : Called) → r' ≡ Refused b (record { number = n; place = AtFrames b.frames }) → CalledBy g c l T m' eps places (call g c l (frame_call ls) st) r'
+        pub frame_back : (e : Reason) → r ≡ Err e → (b : Decoder) → BackIs m'.tokens m'.sums d b → (r' : Called) → r' ≡ Refused b (refused_at e (AtFrames b.frames)) → CalledBy g c l T m' eps places (call g c l (frame_call ls) st) r'
         unfolding framed
-        frame_back n q b B r' z =
-            subst (CalledBy g c l T m' eps places (call g c l (frame_call ls) st)) (sym (z ∙ ap (λ (y : Decoder). Refused y (record { number = n; place = AtFrames y.frames })) B.is))
+        frame_back e q b B r' z =
+            subst (CalledBy g c l T m' eps places (call g c l (frame_call ls) st)) (sym (z ∙ ap (λ (y : Decoder). Refused y (refused_at e (AtFrames y.frames))) B.is))
             (go (run_of H c ls st.table st.seq st.fresh) refl (subst (Ends _) q ends))
           where
-            go : (o : Outcome ModelWork) → run_of H c ls st.table st.seq st.fresh ≡ o → Ends o (NotPassed n) → CalledBy g c l T m' eps places (call g c l (frame_call ls) st) (Refused (moved_to d d.side d.frames d.seq B.used) (record { number = n; place = AtFrames d.frames }))
-            go o b (ended_refused j ne old) =
+            go : (o : Outcome ModelWork) → run_of H c ls st.table st.seq st.fresh ≡ o → Ends o (Err e) → CalledBy g c l T m' eps places (call g c l (frame_call ls) st) (Refused (moved_to d d.side d.frames d.seq B.used) (refused_at e (AtFrames d.frames)))
+            go o b (ended_refused j old) =
                 let low = fewer old.finished B.newest in
-                subst (λ (s : Said). CalledBy g c l T m' eps places s (Refused (moved_to d d.side d.frames d.seq B.used) (record { number = n; place = AtFrames d.frames }))) (sym (runs ∙ ap framed b))
-                (called_refused fs (ap (λ (i : ℕ). refusal_answer (record { number = n; place = at_frames i })) R.frames_are)
+                subst (λ (s : Said). CalledBy g c l T m' eps places s (Refused (moved_to d d.side d.frames d.seq B.used) (refused_at e (AtFrames d.frames)))) (sym (runs ∙ ap framed b))
+                (called_refused fs (ap (λ (i : ℕ). refusal_answer (record { number = number_of e; place = at_frames i })) R.frames_are)
                 (record {
                   fixed = fixed_moved R.fixed m' L d.side d.frames d.seq B.used R.fixed.side;
                   standing = R.standing;

@@ -1,5 +1,5 @@
 -- The keep margin, and the frames decoded. Assumes nothing.
-use Rattle.std.specs.Prelude.{◌≡◌, refl, ℕ, Bool, true, false, cond, List, Float}
+use Rattle.std.specs.Prelude.{◌≡◌, refl, ℕ, Bool, true, false, cond, List, Float, Some, None}
 use Rattle.std.proofs.Common.{sym, subst}
 use Rattle.std.proofs.Math.Path.{ap}
 use Rattle.model.specs.Basics.{0f, nowhere, Outcome, ok, refused}
@@ -8,7 +8,6 @@ use Rattle.model.specs.Path.{Limits}
 use Rattle.model.specs.Cutoff.{Config as Settings}
 use Rattle.model.specs.Passes.{State, fair_margin, set_keep}
 use Rattle.model.specs.Calls.{frames_decoded_read, keep_call, read_call, count_answer, read_answer, Said, said, call}
-use Rattle.joins.specs.declared.Margin.TheVariants.{Off, Within}
 use Rattle.joins.specs.Model.{margin_of}
 use Rattle.copy_laws.specs.Walks.{Heard}
 use Rattle.stores.specs.Rep.{Lent}
@@ -22,11 +21,11 @@ use Rattle.decoder.specs.Promises.{with_margin, unfit, keep_of}
 -- ---- the keep margin
 
 -- the margin of the settings
-pub asked_is : (keeps : Bool) (x : Float) → asked keeps x ≡ margin_of (cond keeps (Within x) Off)
+pub asked_is : (keeps : Bool) (x : Float) → asked keeps x ≡ margin_of (cond keeps (Some x) None)
 asked_is true x = refl
 asked_is false x = refl
 
-margin_kept : (keeps : Bool) (x : Float) → asked keeps x ≡ margin_of (cond keeps (Within (cond keeps x 0f)) Off)
+margin_kept : (keeps : Bool) (x : Float) → asked keeps x ≡ margin_of (cond keeps (Some (cond keeps x 0f)) None)
 margin_kept true x = refl
 margin_kept false x = refl
 

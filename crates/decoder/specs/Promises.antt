@@ -1,5 +1,5 @@
 -- What the decoder's calls ask and promise. Nothing is proved here. `Represents` says what decoder and stores stand for; `call` of the definition, what every call answers.
-use Rattle.std.specs.Prelude.{◌≡◌, ◌⊎◌, ℕ, ◌*◌, ◌/◌, ◌≤◌, ◌<◌, Bool, cond, List, [], ◌∷◌, ◌++◌, ℤ, length, drop, Float}
+use Rattle.std.specs.Prelude.{◌≡◌, ◌⊎◌, ℕ, ◌*◌, ◌/◌, ◌≤◌, ◌<◌, Bool, cond, List, [], ◌∷◌, ◌++◌, ℤ, length, drop, Float, Option, Result, Ok, Err}
 use Rattle.std.proofs.Math.Option.{none, some}
 use Rattle.model.specs.Basics.{0f, Refusal as ModelRefusal}
 use Rattle.model.specs.Graph.{Graph, states, check_graph}
@@ -23,19 +23,16 @@ use Rattle.checks.specs.Frame.{frame_number}
 use Rattle.checks.specs.Margin.{asked}
 use Rattle.traceback.specs.declared.BestPath.{BestPath}
 use Rattle.traceback.specs.Right.{Parts, places_of as places_for, best_as, BestKeeps}
-use Rattle.readings.specs.declared.Listed.{Listed}
 use Rattle.readings.specs.Paths.{Outputs, places_in}
 use Rattle.readings.specs.Right.{ListedIs, Scratch, ScratchLeft}
-use Rattle.reading_list.specs.declared.ReadingList.{ReadingList}
 use Rattle.reading_list.specs.Outputs.{Outputs as Lists, places_in as output_places}
 use Rattle.reading_list.specs.Right.{ReadingsAre}
 use Rattle.reading_list.specs.Scratch.{Scratch as ListScratch, ScratchLeft as ListScratchLeft}
 use Rattle.decoder.specs.declared.Decoder.{Decoder}
 use Rattle.decoder.specs.declared.Called.{Called}
 use Rattle.decoder.specs.declared.Called.TheVariants.{Done, Refused}
-use Rattle.decoder.specs.declared.Fitted.{Fitted}
-use Rattle.decoder.specs.declared.Fitted.TheVariants.{Unfit, Done as FitDone, Refused as FitRefused}
 use Rattle.decoder.specs.Represents.{LimitsAre, Represents, Left, CalledBy}
+use Rattle.refusals.specs.declared.Reason.{Reason}
 
 -- ---- starts, frames and margins
 
@@ -88,17 +85,13 @@ keep_of d keeps x = cond (fair_margin (asked keeps x)) (Done (with_margin d keep
 
 -- ---- the fitter
 
-abbrev pub fitted_by : Called → Fitted
-fitted_by (Done d) = FitDone d
-fitted_by (Refused d f) = FitRefused d f
-
 -- A graph or settings that are refused, and nothing has changed; or the answer of the fitting's own start, with the places of the record store and the queue as limits.
-pub data FitIs (g : Graph) (T : Tables) (m m' : Lent) (l : Lengths) (qs qs' eps eps' : List ℕ) (c : Config) : Fitted → Type 0 where
-  fit_graph : (w : ModelRefusal) → check_graph g ≡ some w → m' ≡ m → qs' ≡ qs → eps' ≡ eps → FitIs g T m m' l qs qs' eps eps' c (Unfit (refusal_of w))
-  fit_unfit : check_graph g ≡ none → check_fit g (config_of c) (places_of (states g) l) ≡ some 6 → m' ≡ m → qs' ≡ qs → eps' ≡ eps → FitIs g T m m' l qs qs' eps eps' c (Unfit unfit)
+pub data FitIs (g : Graph) (T : Tables) (m m' : Lent) (l : Lengths) (qs qs' eps eps' : List ℕ) (c : Config) : Result Called Refusal → Type 0 where
+  fit_graph : (w : ModelRefusal) → check_graph g ≡ some w → m' ≡ m → qs' ≡ qs → eps' ≡ eps → FitIs g T m m' l qs qs' eps eps' c (Err (refusal_of w))
+  fit_unfit : check_graph g ≡ none → check_fit g (config_of c) (places_of (states g) l) ≡ some 6 → m' ≡ m → qs' ≡ qs → eps' ≡ eps → FitIs g T m m' l qs qs' eps eps' c (Err unfit)
   fit_called : {r : Called} → check_graph g ≡ none → check_fit g (config_of c) (places_of (states g) l) ≡ none
       → ((lim : Limits) → LimitsAre lim (record_places l) (length qs) → CalledBy g (config_of c) lim T m' eps' (length qs) (call g (config_of c) lim start_call (fitted g)) r)
-      → Worked (states g) (record_places l) m m' qs qs' → eps' ≡ eps_bits g (states g) ++ drop (states g) eps → FitIs g T m m' l qs qs' eps eps' c (fitted_by r)
+      → Worked (states g) (record_places l) m m' qs qs' → eps' ≡ eps_bits g (states g) ++ drop (states g) eps → FitIs g T m m' l qs qs' eps eps' c (Ok r)
 
 -- ---- what a call asks: decoder and stores as the last call left them, and slices as long as at the fitting
 
@@ -176,12 +169,12 @@ ActiveIs tk d r =
 abbrev pub RelativeCostIs : (tk : List ℕ) (sm finals : List Float) → Decoder → Float → Type 0
 RelativeCostIs tk sm finals d r = (rs : List ℕ) (ls : List ℤ) (F : FinalsLeft tk sm rs ls finals d) → let L = F.left in (call L.g L.c L.l (read_call relative_cost_read) L.st).answer ≡ cost_answer r
 
-abbrev pub BestPathIs : (tk : List ℕ) (sm : List Float) (rs : List ℕ) (ls : List ℤ) (finals : List Float) → Decoder → (use_final : Bool) → (m m' : Parts) → BestPath → Type 0
+abbrev pub BestPathIs : (tk : List ℕ) (sm : List Float) (rs : List ℕ) (ls : List ℤ) (finals : List Float) → Decoder → (use_final : Bool) → (m m' : Parts) → Result (Option BestPath) Reason → Type 0
 BestPathIs tk sm rs ls finals d use_final m m' r =
     (F : FinalsLeft tk sm rs ls finals d) → let L = F.left in (best_as r m' ≡ (call L.g L.c L.l (read_call (best_path_read use_final (places_for m))) L.st).answer) × BestKeeps r m m'
 
 -- the answer and the lent output whole; what it works in is left to the program, and untouched where 6 refuses
-pub record AlternativesIs (tk : List ℕ) (sm : List Float) (rs : List ℕ) (ls : List ℤ) (finals : List Float) (d : Decoder) (use_final : Bool) (max : ℕ) (w w' : Scratch) (o o' : Outputs) (r : Listed) : Type 0 where
+pub record AlternativesIs (tk : List ℕ) (sm : List Float) (rs : List ℕ) (ls : List ℤ) (finals : List Float) (d : Decoder) (use_final : Bool) (max : ℕ) (w w' : Scratch) (o o' : Outputs) (r : Result ℕ Reason) : Type 0 where
   pub answer : (F : FinalsLeft tk sm rs ls finals d) → let L = F.left in ListedIs (call L.g L.c L.l (read_call (alternatives_read use_final max (places_in o))) L.st).answer o o' r
   pub work : Used ScratchLeft (64 < max) w w'
 
@@ -190,6 +183,6 @@ abbrev pub holding : Limits → (entries kept : ℕ) → Limits
 holding l entries kept = record { full = l.full; queue = l.queue; below = some entries; kept = some kept }
 
 -- the same, with the places of the two stores of 15 as limits
-pub record ReadingsIs (tk : List ℕ) (sm : List Float) (rs : List ℕ) (ls : List ℤ) (gs finals : List Float) (d : Decoder) (use_final : Bool) (listed max entries kept : ℕ) (w w' : ListScratch) (o o' : Lists) (r : ReadingList) : Type 0 where
+pub record ReadingsIs (tk : List ℕ) (sm : List Float) (rs : List ℕ) (ls : List ℤ) (gs finals : List Float) (d : Decoder) (use_final : Bool) (listed max entries kept : ℕ) (w w' : ListScratch) (o o' : Lists) (r : Result ℕ Reason) : Type 0 where
   pub answer : (F : GapsLeft tk sm rs ls gs finals d) → let L = F.left in ReadingsAre (call L.g L.c (holding L.l entries kept) (read_call (readings_read use_final listed max (output_places o))) L.st).answer max o o' r
   pub work : Used ListScratchLeft ((64 < listed) ⊎ (64 < max)) w w'

@@ -1,5 +1,5 @@
 -- What the decoder's value and the lent stores stand for between calls.
-use Rattle.std.specs.Prelude.{◌≡◌, refl, ℕ, ◌-◌, ◌≤◌, ◌<◌, false, List, ltb, length, get_or}
+use Rattle.std.specs.Prelude.{◌≡◌, refl, ℕ, ◌-◌, ◌≤◌, ◌<◌, false, cond, List, ltb, length, get_or, Option, Some, None, Float}
 use Rattle.std.proofs.Math.Option.{none, some}
 use Rattle.model.specs.Basics.{0f, Place, nowhere, at_arc, at_state, at_frames, Refusal as ModelRefusal}
 use Rattle.model.specs.Graph.{Graph, states, has_eps}
@@ -21,15 +21,18 @@ use Rattle.refusals.specs.declared.Place.{Place as StoredPlace}
 use Rattle.refusals.specs.declared.Place.TheVariants.{Nowhere, AtArc, AtState, AtFrames}
 use Rattle.refusals.specs.declared.Refusal.{Refusal}
 use Rattle.arrivals.specs.declared.Setting.{Setting}
-use Rattle.arrivals.specs.Settled.{margin_in}
 use Rattle.arcs.specs.declared.Pass.TheVariants.{Nonemitting}
 use Rattle.arcs.specs.State.{Tables, TablesOf}
 use Rattle.decoder.specs.declared.Decoder.{Decoder}
 use Rattle.decoder.specs.declared.Called.{Called}
 use Rattle.decoder.specs.declared.Called.TheVariants.{Done, Refused}
 
+-- the keep margin, which the decoder holds as a flag and a number
+abbrev pub margin_in : Decoder → Option Float
+margin_in d = cond d.keeps (Some d.margin) None
+
 abbrev pub setting_of : Decoder → Setting
-setting_of d = record { side = d.side; states = d.graph.states; cap = d.cap; frame = d.frames; keeps = d.keeps; margin = d.margin }
+setting_of d = record { side = d.side; states = d.graph.states; cap = d.cap; frame = d.frames; margin = margin_in d }
 
 -- the exact limits: the places for records, and those of the queue
 pub record LimitsAre (l : Limits) (cap places : ℕ) : Type 0 where
@@ -71,7 +74,7 @@ Idle d = d.keeps ≡ false → d.margin ≡ 0f
 pub record Represents (g : Graph) (c : Settings) (l : Limits) (T : Tables) (m : Lent) (eps : List ℕ) (places : ℕ) (d : Decoder) (fs : List Heard) (st : State) : Type 0 where
   pub fixed : Fixed g c l T m eps places d
   pub standing : Standing g fs st
-  pub margin_is : st.margin ≡ margin_of (margin_in (setting_of d))
+  pub margin_is : st.margin ≡ margin_of (margin_in d)
   pub idle : Idle d
   pub frames_are : st.frames ≡ d.frames
   pub seq_is : st.seq ≡ d.seq

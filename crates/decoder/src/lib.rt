@@ -7,19 +7,20 @@ ghost use Rattle.stores.specs.Rep.{lent};
 ghost use Rattle.arcs.specs.State.{tables};
 ghost use Rattle.nonemitting.specs.Expand.{graph_tables};
 ghost use Rattle.fst.specs.Answer.{graph_of};
-ghost use Rattle.decoder.specs.Represents.{setting_of, Left};
-ghost use Rattle.decoder.specs.Promises.{Behind, StartIs, FrameIs, with_margin, keep_of, unfit, fitted_by, FitIs, FrameLeft};
+ghost use Rattle.refusals.specs.Numbers.{refused_at};
+ghost use Rattle.decoder.specs.Represents.{margin_in, setting_of, Left};
+ghost use Rattle.decoder.specs.Promises.{Behind, StartIs, FrameIs, with_margin, keep_of, unfit, FitIs, FrameLeft};
 ghost use Rattle.decoder.specs.Begin.{moved_to, emptied_of, turned_of, BothCleared, BeginAsks, BeginIs};
 ghost use Rattle.decoder.specs.Frame.{NewestIs, BackIs, RunGiven, RunIs};
 ghost use Rattle.decoder.specs.Parts.{AdvanceIs};
 ghost use Rattle.decoder.specs.Fit.{lengths_of, new_decoder};
 
-use arcs::{Passed, Work};
+use arcs::Work;
 use arrivals::Setting;
 use checks::Lengths;
 use cutoff::Config;
-use fst::{Built, Graph, NO_STATE};
-use refusals::{Place, Refusal};
+use fst::{Graph, NO_STATE};
+use refusals::{Place, Reason, Refusal};
 use tokens::Token;
 
 // What the decoder holds beside the lent stores: the graph's counts, the settings, the places for records, the keep margin if there is one, which table the
@@ -38,19 +39,18 @@ pub struct Decoder {
     pub used: u32,
 }
 
-// A call that is accepted or refused; the decoder goes on with either.
+// A call that is accepted or refused. No `Result`: the decoder goes on with either, and `?` would lose it.
 #[derive(Clone, Copy)]
 pub enum Called {
     Done(Decoder),
     Refused(Decoder, Refusal),
 }
 
-// A graph or settings that are refused, or a new decoder, whose own start may be refused.
-#[derive(Clone, Copy)]
-pub enum Fitted {
-    Unfit(Refusal),
-    Done(Decoder),
-    Refused(Decoder, Refusal),
+// The keep margin, if there is one. In C it is a flag and a number.
+fn margin_of(d: Decoder) -> Option<f32>
+    ensures { result ≡ margin_in d }
+{
+    if d.keeps { Some(d.margin) } else { None }
 }
 
 fn setting_of(d: Decoder) -> Setting
@@ -61,37 +61,27 @@ fn setting_of(d: Decoder) -> Setting
         states: d.graph.states,
         cap: d.cap,
         frame: d.frames,
-        keeps: d.keeps,
-        margin: d.margin,
+        margin: margin_of(d),
     }
 }
 
 // 6, which has no place.
-fn refused() -> Refusal
+fn unfit() -> Refusal
     ensures { result ≡ unfit }
 {
-    Refusal {
-        number: refusals::BAD_SETTING,
-        place: Place::Nowhere,
-    }
+    Reason::BadSetting.at(Place::Nowhere)
 }
 
 // The decoder with another finished table.
 fn moved_to(d: Decoder, side: u32, frames: u32, seq: u32, used: u32) -> Decoder
     ensures { result ≡ moved_to d side frames seq used }
 {
-    let graph = d.graph;
-    let config = d.config;
     Decoder {
-        graph,
-        config,
-        cap: d.cap,
-        keeps: d.keeps,
-        margin: d.margin,
         side,
         frames,
         seq,
         used,
+        ..d
     }
 }
 
@@ -154,12 +144,8 @@ fn begin(
     };
     tokens::put_token(tokens, sums, decoder.side, first, token);
     let setting = Setting {
-        side: decoder.side,
-        states,
-        cap: decoder.cap,
         frame: 0,
-        keeps: decoder.keeps,
-        margin: decoder.margin,
+        ..setting_of(decoder)
     };
     let w = Work {
         used: 0,
@@ -172,17 +158,11 @@ fn begin(
         tokens, sums, records, labels, gaps, queue, eps, offsets, ilabels, olabels, weights,
         nextstates, tid2pdf, tid2phone, setting, w,
     ) {
-        Passed::Refused(n) => {
+        Err(reason) => {
             clear_both(tokens, states);
-            Called::Refused(
-                emptied(decoder),
-                Refusal {
-                    number: n,
-                    place: Place::Nowhere,
-                },
-            )
+            Called::Refused(emptied(decoder), reason.at(Place::Nowhere))
         }
-        Passed::On(end) => Called::Done(turned(decoder, 0, end)),
+        Ok(end) => Called::Done(turned(decoder, 0, end)),
     }
 }
 
@@ -246,16 +226,7 @@ fn new_decoder(graph: Graph, config: Config, cap: u32) -> Decoder
     }
 }
 
-fn fitted_by(called: Called) -> Fitted
-    ensures { result ≡ fitted_by called }
-{
-    match called {
-        Called::Done(d) => Fitted::Done(d),
-        Called::Refused(d, why) => Fitted::Refused(d, why),
-    }
-}
-
-// A new decoder over the lent stores, without margin, after its start.
+// A new decoder over the lent stores, without margin, after its start, which may be refused; or why graph or settings are.
 pub fn fit(
     tokens: &mut [u32],
     sums: &mut [f32],
@@ -289,47 +260,43 @@ pub fn fit(
     start: u32,
     pdfs: u32,
     config: Config,
-) -> Fitted
+) -> Result<Called, Refusal>
     ensures { FitIs (graph_of offsets.now ilabels.now olabels.now weights.now nextstates.now finals.now tid2pdf.now tid2phone.now start pdfs) (graph_tables offsets.now ilabels.now olabels.now weights.now nextstates.now tid2pdf.now tid2phone.now) (lent tokens.old sums.old records.old labels.old gaps.old) (lent tokens.new sums.new records.new labels.new gaps.new) (lengths_of (lent tokens.old sums.old records.old labels.old gaps.old) eps.old scratch.now keys.now places.now own.now heads.now list.now lists.now route.now history_keys.now history_skips.now kept_hashes.now kept_links.now kept_sums.now order.now) queue.old queue.new eps.old eps.new config result }
 {
-    match fst::build(
+    let graph = fst::build(
         offsets, ilabels, olabels, weights, nextstates, finals, tid2pdf, tid2phone, start, pdfs,
-    ) {
-        Built::Refused(why) => Fitted::Unfit(why),
-        Built::Accepted(graph) => {
-            let lengths = Lengths {
-                tokens: tokens.len(),
-                sums: sums.len(),
-                eps: eps.len(),
-                scratch: scratch.len(),
-                keys: keys.len(),
-                places: places.len(),
-                own: own.len(),
-                heads: heads.len(),
-                list: list.len(),
-                records: records.len(),
-                labels: labels.len(),
-                gaps: gaps.len(),
-                lists: lists.len(),
-                route: route.len(),
-                history_keys: history_keys.len(),
-                history_skips: history_skips.len(),
-                kept_hashes: kept_hashes.len(),
-                kept_links: kept_links.len(),
-                kept_sums: kept_sums.len(),
-                order: order.len(),
-            };
-            if checks::fit_wrong(config, lengths, graph.states as usize) {
-                return Fitted::Unfit(refused());
-            }
-            fst::fill_eps(offsets, ilabels, eps);
-            let d = new_decoder(graph, config, checks::record_places(lengths) as u32);
-            fitted_by(begin_within(
-                tokens, sums, records, labels, gaps, queue, eps, offsets, ilabels, olabels,
-                weights, nextstates, tid2pdf, tid2phone, d,
-            ))
-        }
+    )?;
+    let lengths = Lengths {
+        tokens: tokens.len(),
+        sums: sums.len(),
+        eps: eps.len(),
+        scratch: scratch.len(),
+        keys: keys.len(),
+        places: places.len(),
+        own: own.len(),
+        heads: heads.len(),
+        list: list.len(),
+        records: records.len(),
+        labels: labels.len(),
+        gaps: gaps.len(),
+        lists: lists.len(),
+        route: route.len(),
+        history_keys: history_keys.len(),
+        history_skips: history_skips.len(),
+        kept_hashes: kept_hashes.len(),
+        kept_links: kept_links.len(),
+        kept_sums: kept_sums.len(),
+        order: order.len(),
+    };
+    if checks::fit_wrong(config, lengths, graph.states as usize) {
+        return Err(unfit());
     }
+    fst::fill_eps(offsets, ilabels, eps);
+    let d = new_decoder(graph, config, checks::record_places(lengths) as u32);
+    Ok(begin_within(
+        tokens, sums, records, labels, gaps, queue, eps, offsets, ilabels, olabels, weights,
+        nextstates, tid2pdf, tid2phone, d,
+    ))
 }
 
 // The Rust's `init_decoding`.
@@ -381,26 +348,18 @@ fn run_frame(
     config: Config,
     used: u32,
     seq: u32,
-) -> Passed
+) -> Result<Work, Reason>
     requires { RunGiven setting (lent tokens.old sums.old records.old labels.old gaps.old) queue.old eps.now (tables offsets.now ilabels.now olabels.now weights.now nextstates.now tid2pdf.now tid2phone.now loglikes.now) config used seq × (setting.states ≤ length scratch.old) }
     ensures { RunIs setting (lent tokens.old sums.old records.old labels.old gaps.old) (lent tokens.new sums.new records.new labels.new gaps.new) queue.old queue.new eps.now (tables offsets.now ilabels.now olabels.now weights.now nextstates.now tid2pdf.now tid2phone.now loglikes.now) config used seq result }
 {
-    match emitting::emitting(
+    let w = emitting::emitting(
         tokens, sums, records, labels, gaps, queue, scratch, eps, offsets, ilabels, olabels,
         weights, nextstates, tid2pdf, tid2phone, loglikes, setting, config, used, seq,
-    ) {
-        Passed::Refused(n) => Passed::Refused(n),
-        Passed::On(w) => nonemitting::nonemitting(
-            tokens, sums, records, labels, gaps, queue, eps, offsets, ilabels, olabels, weights,
-            nextstates, tid2pdf, tid2phone, setting, w,
-        ),
-    }
-}
-
-fn larger(a: u32, b: u32) -> u32
-    ensures { (a ≤ result) × (b ≤ result) × ((result ≡ a) ⊎ (result ≡ b)) }
-{
-    if a < b { b } else { a }
+    )?;
+    nonemitting::nonemitting(
+        tokens, sums, records, labels, gaps, queue, eps, offsets, ilabels, olabels, weights,
+        nextstates, tid2pdf, tid2phone, setting, w,
+    )
 }
 
 // The newest record of the finished tokens: what a refused frame put on is not used.
@@ -410,7 +369,7 @@ fn newest(tokens: &[u32], sums: &[f32], side: u32, states: u32) -> u32
 {
     let mut most: u32 = 0;
     for s in 0..states {
-        most = larger(most, tokens::token_at(tokens, sums, side, s).link);
+        most = most.max(tokens::token_at(tokens, sums, side, s).link);
     }
     most
 }
@@ -424,11 +383,10 @@ fn go_back(tokens: &[u32], sums: &[f32], d: Decoder) -> Decoder
     moved_to(d, d.side, d.frames, d.seq, used)
 }
 
-fn refused_at(d: Decoder, number: u32) -> Called
-    ensures { result ≡ Called.Refused d (record { number = number; place = Place.AtFrames d.frames }) }
+fn refused(d: Decoder, reason: Reason) -> Called
+    ensures { result ≡ Called.Refused d (refused_at reason (Place.AtFrames d.frames)) }
 {
-    let place = Place::AtFrames(d.frames);
-    Called::Refused(d, Refusal { number, place })
+    Called::Refused(d, reason.at(Place::AtFrames(d.frames)))
 }
 
 // A frame over stores of just their places.
@@ -454,9 +412,8 @@ fn advance(
     requires { FrameLeft (graph_tables offsets.now ilabels.now olabels.now weights.now nextstates.now tid2pdf.now tid2phone.now) (lent tokens.old sums.old records.old labels.old gaps.old) eps.now (length queue.old) (length scratch.old) decoder }
     ensures { AdvanceIs (graph_tables offsets.now ilabels.now olabels.now weights.now nextstates.now tid2pdf.now tid2phone.now) (lent tokens.old sums.old records.old labels.old gaps.old) (lent tokens.new sums.new records.new labels.new gaps.new) queue.old queue.new scratch.old scratch.new eps.now loglikes.now decoder result }
 {
-    let wrong = checks::check_frame(loglikes, decoder.frames, decoder.graph.pdfs);
-    if wrong != 0 {
-        return refused_at(decoder, wrong);
+    if let Err(reason) = checks::check_frame(loglikes, decoder.frames, decoder.graph.pdfs) {
+        return refused(decoder, reason);
     }
     let config = decoder.config;
     match run_frame(
@@ -481,8 +438,8 @@ fn advance(
         decoder.used,
         decoder.seq,
     ) {
-        Passed::Refused(n) => refused_at(go_back(tokens, sums, decoder), n),
-        Passed::On(w) => Called::Done(turned(decoder, decoder.frames + 1, w)),
+        Err(reason) => refused(go_back(tokens, sums, decoder), reason),
+        Ok(w) => Called::Done(turned(decoder, decoder.frames + 1, w)),
     }
 }
 
@@ -544,18 +501,10 @@ fn kept_margin(keeps: bool, margin: f32) -> f32
 fn with_margin(d: Decoder, keeps: bool, margin: f32) -> Decoder
     ensures { result ≡ with_margin d keeps margin }
 {
-    let graph = d.graph;
-    let config = d.config;
     Decoder {
-        graph,
-        config,
-        cap: d.cap,
         keeps,
         margin: kept_margin(keeps, margin),
-        side: d.side,
-        frames: d.frames,
-        seq: d.seq,
-        used: d.used,
+        ..d
     }
 }
 
@@ -564,7 +513,7 @@ pub fn set_keep(decoder: Decoder, keeps: bool, margin: f32) -> Called
     ensures { result ≡ keep_of decoder keeps margin }
 {
     if checks::margin_wrong(keeps, margin) {
-        return Called::Refused(decoder, refused());
+        return Called::Refused(decoder, unfit());
     }
     Called::Done(with_margin(decoder, keeps, margin))
 }

@@ -1,7 +1,7 @@
 -- The reading list, of stores that a call has left. Assumes nothing.
 use Rattle.std.proofs.Math.Path.{refl}
 use Rattle.std.proofs.Common.{sym, ◌∙◌, arith}
-use Rattle.std.specs.Prelude.{ℕ, ◌-◌, ◌*◌, ◌/◌, ◌≤◌, Bool, List, [], ◌∷◌, ℤ, Float}
+use Rattle.std.specs.Prelude.{ℕ, ◌-◌, ◌*◌, ◌/◌, ◌≤◌, Bool, List, [], ◌∷◌, ℤ, Float, Result}
 use mathlib.Core.List.Memᴰ.{head as here}
 use mathlib.Core.List.Memᴰ.{tail as there}
 use Rattle.model.specs.Calls.{readings_read, read_call, read_answer, call}
@@ -9,7 +9,6 @@ use Rattle.traceback.specs.Best.{walkable_of}
 use Rattle.readings.specs.Known.{ranks_known}
 use Rattle.listing_laws.specs.Situation.{Situation}
 use Rattle.listing.specs.Listed.{scratch, StoresAsk, ListingAsks}
-use Rattle.reading_list.specs.declared.ReadingList.{ReadingList}
 use Rattle.reading_list.specs.Outputs.{Outputs, places_in}
 use Rattle.reading_list.specs.Right.{ReadingsAre, ReadingsRight}
 use Rattle.decoder.specs.declared.Decoder.{Decoder}
@@ -17,6 +16,7 @@ use Rattle.checks.specs.Fit.{Wide}
 use Rattle.decoder.specs.Promises.{LeftOf, GapsLeft, holding}
 use Rattle.decoder.specs.Keep.{asked_is}
 use Rattle.decoder_reads.specs.Reads.{histories_wide, finals_long, best_asks}
+use Rattle.refusals.specs.declared.Reason.{Reason}
 
 module _ {tk : List ℕ} {sm : List Float} {rs : List ℕ} {ls : List ℤ} {gs finals : List Float} {d : Decoder} (F : GapsLeft tk sm rs ls gs finals d) where
   abbrev of : LeftOf tk sm rs ls d
@@ -83,7 +83,7 @@ module _ {tk : List ℕ} {sm : List Float} {rs : List ℕ} {ls : List ℤ} {gs f
         h.1,
       )
 
-  pub readings_is : (use_final : Bool) (listed max entries kept : ℕ) (o o' : Outputs) (r : ReadingList)
+  pub readings_is : (use_final : Bool) (listed max entries kept : ℕ) (o o' : Outputs) (r : Result ℕ Reason)
       → ReadingsRight tk sm finals rs ls gs d.graph.states (1 - d.side) d.used d.keeps d.margin d.frames use_final listed max entries kept o o' r
       → let L = F.left in ReadingsAre (call L.g L.c (holding L.l entries kept) (read_call (readings_read use_final listed max (places_in o))) L.st).answer max o o' r
   unfolding call read_answer

@@ -8,7 +8,7 @@ ghost use Rattle.reading_list.specs.Scratch.{scratch as listScratch};
 ghost use Rattle.decoder.specs.Promises.{ReadingsLeft, ReadingsIs};
 
 use decoder::Decoder;
-use reading_list::ReadingList;
+use refusals::Reason;
 
 // The reading list, the first `max` of it traced, into lent words, frames, segments, five numbers and four costs for each reading. The lists below joins and the kept readings are lent too.
 pub fn reading_list(
@@ -43,7 +43,7 @@ pub fn reading_list(
     segments: &mut [u32],
     numbers: &mut [u64],
     costs: &mut [f32],
-) -> ReadingList
+) -> Result<usize, Reason>
     requires { ReadingsLeft tokens.now sums.now records.now labels.now gaps.now finals.now (length keys.old ∷ length places.old ∷ length own.old ∷ length heads.old ∷ length list.old ∷ []) (length lists.old / 2 ∷ length route.old ∷ length history_keys.old / 2 ∷ length history_skips.old / 2 ∷ []) (kept_places (length kept_hashes.old) (length kept_links.old) (length kept_sums.old)) (length keys.old ∷ length order.old ∷ (length list.old - decoder.graph.states) ∷ []) decoder }
     ensures { ReadingsIs tokens.now sums.now records.now labels.now gaps.now finals.now decoder use_final listed max (entry_places (length entry_hashes.old) (length entry_nexts.old) (length entry_sums.old)) (kept_places (length kept_hashes.old) (length kept_links.old) (length kept_sums.old)) (listScratch keys.old places.old own.old heads.old list.old lists.old route.old history_keys.old history_skips.old entry_hashes.old entry_nexts.old entry_sums.old kept_hashes.old kept_links.old kept_sums.old order.old) (listScratch keys.new places.new own.new heads.new list.new lists.new route.new history_keys.new history_skips.new entry_hashes.new entry_nexts.new entry_sums.new kept_hashes.new kept_links.new kept_sums.new order.new) (listOutputs words.old frames.old segments.old numbers.old costs.old) (listOutputs words.new frames.new segments.new numbers.new costs.new) result }
 {

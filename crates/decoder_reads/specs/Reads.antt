@@ -1,5 +1,5 @@
 -- The reads, of stores that a call has left. Assumes nothing.
-use Rattle.std.specs.Prelude.{◌≡◌, refl, ℕ, ◌-◌, ◌*◌, ◌/◌, ◌≤◌, Bool, List, [], ◌∷◌, ℤ, length, Float}
+use Rattle.std.specs.Prelude.{◌≡◌, refl, ℕ, ◌-◌, ◌*◌, ◌/◌, ◌≤◌, Bool, List, [], ◌∷◌, ℤ, length, Float, Option, Result}
 use Rattle.std.proofs.Common.{sym, arith}
 use Rattle.std.proofs.Math.Path.{ap}
 use mathlib.Core.List.Memᴰ.{head as here}
@@ -9,13 +9,13 @@ use Rattle.stores.specs.Rep.{lent, Finished}
 use Rattle.traceback.specs.declared.BestPath.{BestPath}
 use Rattle.traceback.specs.Table.{Counted, RelativeIs}
 use Rattle.traceback.specs.Right.{Parts, places_of, best_as, BestKeeps, ReadAsks, BestPathRight}
-use Rattle.readings.specs.declared.Listed.{Listed}
 use Rattle.readings.specs.Paths.{Outputs, places_in}
 use Rattle.readings.specs.Right.{AlternativesAsk, ListedIs, AlternativesRight}
 use Rattle.readings.specs.Known.{ranks_known}
 use Rattle.checks.specs.Fit.{Wide}
 use Rattle.decoder.specs.declared.Decoder.{Decoder}
 use Rattle.decoder.specs.Promises.{LeftOf}
+use Rattle.refusals.specs.declared.Reason.{Reason}
 
 module _ {tk : List ℕ} {sm : List Float} {rs : List ℕ} {ls : List ℤ} {d : Decoder} (L : LeftOf tk sm rs ls d) where
   pub read_asks : (1 - d.side ≤ 1) × (d.graph.states * 8 ≤ length tk) × (d.graph.states * 4 ≤ length sm)
@@ -62,7 +62,7 @@ module _ {tk : List ℕ} {sm : List Float} {rs : List ℕ} {ls : List ℤ} {d : 
           finished = finished;
         }
 
-    pub best_is : (use_final : Bool) (m m' : Parts) (r : BestPath) → BestPathRight tk sm finals rs ls d.graph.states (1 - d.side) d.used d.frames use_final m m' r
+    pub best_is : (use_final : Bool) (m m' : Parts) (r : Result (Option BestPath) Reason) → BestPathRight tk sm finals rs ls d.graph.states (1 - d.side) d.used d.frames use_final m m' r
         → (best_as r m' ≡ (call L.g L.c L.l (read_call (best_path_read use_final (places_of m))) L.st).answer) × BestKeeps r m m'
     unfolding call read_answer
     best_is use_final m m' r B = (B.answer L.g finals_are L.gaps L.st L.is.frames_are finished, B.kept)
@@ -79,7 +79,7 @@ module _ {tk : List ℕ} {sm : List Float} {rs : List ℕ} {ls : List ℤ} {d : 
           known = ranks_known L.g f.good f.floats L.fs L.st L.is.standing.active L.is.finished finals finals_are finals_long;
         }
 
-    pub alternatives_is : (use_final : Bool) (max : ℕ) (o o' : Outputs) (r : Listed) → AlternativesRight tk sm finals rs ls d.graph.states (1 - d.side) d.used d.frames use_final max o o' r
+    pub alternatives_is : (use_final : Bool) (max : ℕ) (o o' : Outputs) (r : Result ℕ Reason) → AlternativesRight tk sm finals rs ls d.graph.states (1 - d.side) d.used d.frames use_final max o o' r
         → ListedIs (call L.g L.c L.l (read_call (alternatives_read use_final max (places_in o))) L.st).answer o o' r
     unfolding call read_answer
     alternatives_is use_final max o o' r B = B.answer L.g finals_are L.gaps L.st L.is.frames_are finished

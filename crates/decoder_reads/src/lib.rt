@@ -8,7 +8,7 @@ ghost use Rattle.readings.specs.Right.{scratch};
 ghost use Rattle.decoder.specs.Promises.{ActiveLeft, FinalsLeft, RelativeLeft, AlternativesLeft, ActiveIs, RelativeCostIs, BestPathIs, AlternativesIs};
 
 use decoder::Decoder;
-use readings::Listed;
+use refusals::Reason;
 use traceback::BestPath;
 
 // The frames since the latest start.
@@ -46,7 +46,7 @@ pub fn best_path(
     words: &mut [i32],
     frames: &mut [u32],
     segments: &mut [u32],
-) -> BestPath
+) -> Result<Option<BestPath>, Reason>
     requires { FinalsLeft tokens.now sums.now records.now labels.now finals.now decoder }
     ensures { BestPathIs tokens.now sums.now records.now labels.now finals.now decoder use_final (parts words.old frames.old segments.old) (parts words.new frames.new segments.new) result }
 {
@@ -87,7 +87,7 @@ pub fn alternatives(
     segments: &mut [u32],
     ends: &mut [u32],
     costs: &mut [f32],
-) -> Listed
+) -> Result<usize, Reason>
     requires { AlternativesLeft tokens.now sums.now records.now labels.now finals.now (length keys.old ∷ length places.old ∷ length own.old ∷ []) (length history_keys.old / 2 ∷ length history_skips.old / 2 ∷ []) decoder }
     ensures { AlternativesIs tokens.now sums.now records.now labels.now finals.now decoder use_final max (scratch keys.old places.old own.old history_keys.old history_skips.old) (scratch keys.new places.new own.new history_keys.new history_skips.new) (outputs words.old frames.old segments.old ends.old costs.old) (outputs words.new frames.new segments.new ends.new costs.new) result }
 {

@@ -1,5 +1,5 @@
 -- Lists of calls from C. What a caller reads off the structs and the lent slices are the answers of the decoder's own calls, so that all of demand 3 holds of them. Assumes nothing.
-use Rattle.std.specs.Prelude.{◌≡◌, refl, ℕ, zero, suc, Bool, true, false, List, [], ◌∷◌, ◌++◌, length, Float}
+use Rattle.std.specs.Prelude.{◌≡◌, refl, ℕ, zero, suc, Bool, true, false, List, [], ◌∷◌, ◌++◌, length, Float, Option, Some, None, Result, Ok, Err}
 use Rattle.std.proofs.Common.{sym, ap, ◌∙◌, subst}
 use Rattle.std.proofs.Math.Option.{none, some}
 use Rattle.lists.specs.Tests.{never}
@@ -22,23 +22,17 @@ use Rattle.checks.specs.declared.Lengths.{Lengths}
 use Rattle.checks.specs.Fit.{record_places}
 use Rattle.checks.specs.Margin.{asked}
 use Rattle.traceback.specs.declared.BestPath.{BestPath}
-use Rattle.traceback.specs.declared.BestPath.TheVariants.{Refused as PathRefused, Nobody, Found as PathFound}
 use Rattle.traceback.specs.Right.{Parts, places_of, path_in, best_as}
-use Rattle.readings.specs.declared.Listed.{Listed}
-use Rattle.readings.specs.declared.Listed.TheVariants.{Refused as PathsRefused, Paths}
 use Rattle.readings.specs.Paths.{Outputs, places_in, paths_in, size_by, lesser_of}
 use Rattle.readings.specs.Right.{Scratch, listed_as}
-use Rattle.reading_list.specs.declared.ReadingList.{ReadingList}
-use Rattle.reading_list.specs.declared.ReadingList.TheVariants.{Refused as ReadingsRefused, Readings}
 use Rattle.reading_list.specs.Outputs.{Outputs as Lists, places_in as places_for, readings_in, traces_in}
 use Rattle.reading_list.specs.Right.{list_as}
 use Rattle.reading_list.specs.Scratch.{Scratch as ListScratch}
 use Rattle.decoder.specs.declared.Decoder.{Decoder}
 use Rattle.decoder.specs.declared.Called.{Called}
 use Rattle.decoder.specs.declared.Called.TheVariants.{Done, Refused}
-use Rattle.decoder.specs.declared.Fitted.{Fitted}
 use Rattle.decoder.specs.Represents.{limits_by, limits_by_lem, exact, refusal_of, CalledBy, called_refused}
-use Rattle.decoder.specs.Promises.{StartIs, FrameIs, keep_of, fitted_by, FitIs, fit_graph, fit_unfit, fit_called, ActiveIs, RelativeCostIs, BestPathIs, AlternativesIs, holding, ReadingsIs}
+use Rattle.decoder.specs.Promises.{StartIs, FrameIs, keep_of, FitIs, fit_graph, fit_unfit, fit_called, ActiveIs, RelativeCostIs, BestPathIs, AlternativesIs, holding, ReadingsIs}
 use Rattle.decoder.specs.Behaves.{answer_of as said_of, value_of, Behaves, start_behaves, frame_behaves, keep_behaves, best_behaves, alternatives_behaves, readings_behaves, relative_behaves, active_behaves, frames_behaves, none_yet, one_more}
 use Rattle.decoder.proofs.Alike.{behaves_follows}
 use Rattle.decoder.proofs.Alike.{Stand, runs_limited, first_follows, decoder_limited}
@@ -48,7 +42,9 @@ use Rattle.c_answers.specs.declared.Fitting.{Fitting}
 use Rattle.c_answers.specs.declared.Answer.{Answer}
 use Rattle.c_answers.specs.declared.Path.{Path}
 use Rattle.c_answers.specs.declared.Count.{Count}
-use Rattle.c_answers.specs.Forms.{FormOf, answer_of, fitted_answer, verdict_of, path_of, listed_count, reading_count}
+use Rattle.c_answers.specs.Forms.{FormOf, answer_of, fitted_answer, verdict_of, path_of, told_count}
+use Rattle.refusals.specs.declared.Reason.{Reason}
+use Rattle.refusals.specs.Numbers.{number_of}
 
 -- ---- what a caller reads
 
@@ -87,9 +83,9 @@ pub data BehavesC (T : Tables) (finals : List Float) (eps : List ℕ) (places : 
   keep_c : {m : Lent} {d : Decoder} {r : Answer} (keeps : Bool) (x : Float) → r ≡ answer_of (keep_of d keeps x) → BehavesC T finals eps places (exact d places, keep_call (asked keeps x)) m d (verdict_says r.verdict) m r.decoder
   best_c : {m : Lent} {d : Decoder} {r : Path} (use_final : Bool) (p p' : Parts) → FormOf (BestPathIs m.tokens m.sums m.records m.labels finals d use_final p p') path_of r
       → BehavesC T finals eps places (exact d places, read_call (best_path_read use_final (places_of p))) m d (path_says r p') m d
-  alternatives_c : {m : Lent} {d : Decoder} {r : Count} (use_final : Bool) (max : ℕ) {w w' : Scratch} (o o' : Outputs) → FormOf (AlternativesIs m.tokens m.sums m.records m.labels finals d use_final max w w' o o') listed_count r
+  alternatives_c : {m : Lent} {d : Decoder} {r : Count} (use_final : Bool) (max : ℕ) {w w' : Scratch} (o o' : Outputs) → FormOf (AlternativesIs m.tokens m.sums m.records m.labels finals d use_final max w w' o o') told_count r
       → BehavesC T finals eps places (exact d places, read_call (alternatives_read use_final max (places_in o))) m d (paths_say r o') m d
-  readings_c : {m : Lent} {d : Decoder} {r : Count} (use_final : Bool) (listed max entries kept : ℕ) {w w' : ListScratch} (o o' : Lists) → FormOf (ReadingsIs m.tokens m.sums m.records m.labels m.gaps finals d use_final listed max entries kept w w' o o') reading_count r
+  readings_c : {m : Lent} {d : Decoder} {r : Count} (use_final : Bool) (listed max entries kept : ℕ) {w w' : ListScratch} (o o' : Lists) → FormOf (ReadingsIs m.tokens m.sums m.records m.labels m.gaps finals d use_final listed max entries kept w w' o o') told_count r
       → BehavesC T finals eps places (holding (exact d places) entries kept, read_call (readings_read use_final listed max (places_for o))) m d (readings_say max r o') m d
   relative_c : {m : Lent} {d : Decoder} {x : Float} → RelativeCostIs m.tokens m.sums finals d x → BehavesC T finals eps places (exact d places, read_call relative_cost_read) m d (cost_answer x) m d
   active_c : {m : Lent} {d : Decoder} {n : ℕ} → ActiveIs m.tokens d n → BehavesC T finals eps places (exact d places, read_call num_active_read) m d (count_answer n) m d
@@ -132,18 +128,18 @@ module _ {g : Graph} {c : Settings} {T : Tables} {eps : List ℕ} {places : ℕ}
   called_told : {k : Limits × Call} {m' : Lent} {r r' : Answer} → r' ≡ r → Says k m' r.decoder (verdict_says r.verdict) → Says k m' r'.decoder (verdict_says r'.verdict)
   called_told {k} {m'} e = subst (λ (x : Answer). Says k m' x.decoder (verdict_says x.verdict)) (sym e)
 
-  path_read : {k : Limits × Call} (r : BestPath) (p : Parts) → Says k m d (best_as r p) → Says k m d (path_says (path_of r) p)
-  path_read {k} (PathRefused n) p B = subst (Says k m d) (sym (number_read n _ (not_0 B))) B
-  path_read Nobody p B = B
-  path_read (PathFound z x) p B = B
+  path_read : {k : Limits × Call} (r : Result (Option BestPath) Reason) (p : Parts) → Says k m d (best_as r p) → Says k m d (path_says (path_of r) p)
+  path_read {k} (Err e) p B = subst (Says k m d) (sym (number_read (number_of e) _ (not_0 B))) B
+  path_read (Ok None) p B = B
+  path_read (Ok (Some b)) p B = B
 
-  paths_read : {k : Limits × Call} (r : Listed) (o : Outputs) → Says k m d (listed_as r o) → Says k m d (paths_say (listed_count r) o)
-  paths_read {k} (PathsRefused n) o B = subst (Says k m d) (sym (number_read n _ (not_0 B))) B
-  paths_read (Paths n) o B = B
+  paths_read : {k : Limits × Call} (r : Result ℕ Reason) (o : Outputs) → Says k m d (listed_as r o) → Says k m d (paths_say (told_count r) o)
+  paths_read {k} (Err e) o B = subst (Says k m d) (sym (number_read (number_of e) _ (not_0 B))) B
+  paths_read (Ok n) o B = B
 
-  readings_read_lem : {k : Limits × Call} (max : ℕ) (r : ReadingList) (o : Lists) → Says k m d (list_as max r o) → Says k m d (readings_say max (reading_count r) o)
-  readings_read_lem {k} max (ReadingsRefused n) o B = subst (Says k m d) (sym (number_read n _ (not_0 B))) B
-  readings_read_lem max (Readings n) o B = B
+  readings_read_lem : {k : Limits × Call} (max : ℕ) (r : Result ℕ Reason) (o : Lists) → Says k m d (list_as max r o) → Says k m d (readings_say max (told_count r) o)
+  readings_read_lem {k} max (Err e) o B = subst (Says k m d) (sym (number_read (number_of e) _ (not_0 B))) B
+  readings_read_lem max (Ok n) o B = B
 
   read_told : {A : Type 0} {k : Limits × Call} (f : A → Said) {r r' : A} → r' ≡ r → Says k m d (f r) → Says k m d (f r')
   read_told {A} {k} f e = subst (λ (x : A). Says k m d (f x)) (sym e)
@@ -192,11 +188,11 @@ c_fitting g T m m' l qs qs' eps eps' c r F e =
     lim : Limits
     lim = limits_by (record_places l) (length qs)
 
-    started : (x : Called) → CalledBy g (config_of c) lim T m' eps' (length qs) (call g (config_of c) lim start_call (fitted g)) x → FittedAs (fitted_by x) (verdict_says (fitted_answer (fitted_by x)).verdict) (fitted_answer (fitted_by x)).decoder
+    started : (x : Called) → CalledBy g (config_of c) lim T m' eps' (length qs) (call g (config_of c) lim start_call (fitted g)) x → FittedAs (Ok x) (verdict_says (fitted_answer (Ok x)).verdict) (fitted_answer (Ok x)).decoder
     started (Done d) B = (refl, refl)
     started (Refused d f) (called_refused fs e R) = (refusal_read f (refusal_not_0 g (config_of c) lim start_call (fitted g) (refusal_of f) e), refl)
 
-    go : (f : Fitted) → FitIs g T m m' l qs qs' eps eps' c f → (fitted_answer f).fitted ≡ true → FittedAs f (verdict_says (fitted_answer f).verdict) (fitted_answer f).decoder
+    go : (f : Result Called Refusal) → FitIs g T m m' l qs qs' eps eps' c f → (fitted_answer f).fitted ≡ true → FittedAs f (verdict_says (fitted_answer f).verdict) (fitted_answer f).decoder
     go f (fit_graph w a b x y) q = never q
     go f (fit_unfit a b x y z) q = never q
     go f (fit_called {r = x} a b k W y) q = started x (k lim (limits_by_lem (record_places l) (length qs)))

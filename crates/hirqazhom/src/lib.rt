@@ -22,15 +22,12 @@ ghost use Rattle.refusal_lines.specs.Answer.{WrittenLine, ReadLine};
 ghost use Rattle.decoder.specs.Represents.{Left};
 ghost use Rattle.decoder.specs.Promises.{StartIs, FrameIs, keep_of, FitIs, FrameLeft, ActiveLeft, FinalsLeft, RelativeLeft, AlternativesLeft, ReadingsLeft, ActiveIs, RelativeCostIs, BestPathIs, AlternativesIs, ReadingsIs};
 ghost use Rattle.decoder.specs.Fit.{lengths_of};
-ghost use Rattle.c_answers.specs.Forms.{FormOf, answer_of, fitted_answer, built_verdict, path_of, listed_count, reading_count, silence_of, weighed_of, trailing_count, found_index, shuffled_number, course_numbers, refusal_told, line_count, line_verdict};
+ghost use Rattle.c_answers.specs.Forms.{FormOf, answer_of, fitted_answer, built_verdict, path_of, told_count, silence_of, weighed_of, found_index, shuffled_number, course_numbers, refusal_told, line_verdict};
 
-use c_answers::{
-    Answer, Count, CourseAt, Fitting, Index, Path, Silence, Verdict, answer_of, built_verdict,
-    course_numbers, fitted_answer, index_of, line_count, line_verdict, listed_count, path_of,
-    reading_count, refusal_told, shuffled_number, silence_of, trailing_count, weighed_silence,
-};
+use c_answers::{Answer, Count, CourseAt, Fitting, Index, Path, Silence, Verdict, shuffled_number};
 use cutoff::Config;
 use decoder::Decoder;
+use refusals::Refusal;
 use silence_weighting::SilenceWeighting;
 
 // ---- the graph and the decoder
@@ -51,7 +48,7 @@ pub extern "C" fn hirqazhom_build(
 ) -> Verdict
     ensures { result ≡ built_verdict (build_of (graph_of offsets.now ilabels.now olabels.now weights.now nextstates.now finals.now tid2pdf.now tid2phone.now start pdfs)) }
 {
-    built_verdict(fst::build(
+    Verdict::from(fst::build(
         offsets, ilabels, olabels, weights, nextstates, finals, tid2pdf, tid2phone, start, pdfs,
     ))
 }
@@ -95,7 +92,7 @@ pub extern "C" fn hirqazhom_fit(
 ) -> Fitting
     ensures { FormOf (FitIs (graph_of offsets.now ilabels.now olabels.now weights.now nextstates.now finals.now tid2pdf.now tid2phone.now start pdfs) (graph_tables offsets.now ilabels.now olabels.now weights.now nextstates.now tid2pdf.now tid2phone.now) (lent tokens.old sums.old records.old labels.old gaps.old) (lent tokens.new sums.new records.new labels.new gaps.new) (lengths_of (lent tokens.old sums.old records.old labels.old gaps.old) eps.old scratch.now keys.now places.now own.now heads.now list.now lists.now route.now history_keys.now history_skips.now kept_hashes.now kept_links.now kept_sums.now order.now) queue.old queue.new eps.old eps.new config) fitted_answer result }
 {
-    fitted_answer(decoder::fit(
+    Fitting::from(decoder::fit(
         tokens,
         sums,
         records,
@@ -153,7 +150,7 @@ pub extern "C" fn hirqazhom_start(
     requires { Left (graph_tables offsets.now ilabels.now olabels.now weights.now nextstates.now tid2pdf.now tid2phone.now) (lent tokens.old sums.old records.old labels.old gaps.old) eps.now (length queue.old) decoder }
     ensures { FormOf (StartIs (graph_tables offsets.now ilabels.now olabels.now weights.now nextstates.now tid2pdf.now tid2phone.now) (lent tokens.old sums.old records.old labels.old gaps.old) (lent tokens.new sums.new records.new labels.new gaps.new) queue.old queue.new eps.now decoder) answer_of result }
 {
-    answer_of(decoder::start(
+    Answer::from(decoder::start(
         tokens, sums, records, labels, gaps, queue, eps, offsets, ilabels, olabels, weights,
         nextstates, tid2pdf, tid2phone, decoder,
     ))
@@ -183,7 +180,7 @@ pub extern "C" fn hirqazhom_frame(
     requires { FrameLeft (graph_tables offsets.now ilabels.now olabels.now weights.now nextstates.now tid2pdf.now tid2phone.now) (lent tokens.old sums.old records.old labels.old gaps.old) eps.now (length queue.old) (length scratch.old) decoder }
     ensures { FormOf (FrameIs (graph_tables offsets.now ilabels.now olabels.now weights.now nextstates.now tid2pdf.now tid2phone.now) (lent tokens.old sums.old records.old labels.old gaps.old) (lent tokens.new sums.new records.new labels.new gaps.new) queue.old queue.new scratch.old scratch.new eps.now loglikes.now decoder) answer_of result }
 {
-    answer_of(decoder::frame(
+    Answer::from(decoder::frame(
         tokens, sums, records, labels, gaps, queue, scratch, eps, offsets, ilabels, olabels,
         weights, nextstates, tid2pdf, tid2phone, loglikes, decoder,
     ))
@@ -194,7 +191,7 @@ pub extern "C" fn hirqazhom_frame(
 pub extern "C" fn hirqazhom_set_keep(decoder: Decoder, keeps: bool, margin: f32) -> Answer
     ensures { result ≡ answer_of (keep_of decoder keeps margin) }
 {
-    answer_of(decoder::set_keep(decoder, keeps, margin))
+    Answer::from(decoder::set_keep(decoder, keeps, margin))
 }
 
 // Frames since the start.
@@ -245,7 +242,7 @@ pub extern "C" fn hirqazhom_best_path(
     requires { FinalsLeft tokens.now sums.now records.now labels.now finals.now decoder }
     ensures { FormOf (BestPathIs tokens.now sums.now records.now labels.now finals.now decoder use_final (parts words.old frames.old segments.old) (parts words.new frames.new segments.new)) path_of result }
 {
-    path_of(decoder_reads::best_path(
+    Path::from(decoder_reads::best_path(
         tokens, sums, records, labels, finals, decoder, use_final, words, frames, segments,
     ))
 }
@@ -274,9 +271,9 @@ pub extern "C" fn hirqazhom_alternatives(
     costs: &mut [f32],
 ) -> Count
     requires { AlternativesLeft tokens.now sums.now records.now labels.now finals.now (length keys.old ∷ length places.old ∷ length own.old ∷ []) (length history_keys.old / 2 ∷ length history_skips.old / 2 ∷ []) decoder }
-    ensures { FormOf (AlternativesIs tokens.now sums.now records.now labels.now finals.now decoder use_final max (scratch keys.old places.old own.old history_keys.old history_skips.old) (scratch keys.new places.new own.new history_keys.new history_skips.new) (outputs words.old frames.old segments.old ends.old costs.old) (outputs words.new frames.new segments.new ends.new costs.new)) listed_count result }
+    ensures { FormOf (AlternativesIs tokens.now sums.now records.now labels.now finals.now decoder use_final max (scratch keys.old places.old own.old history_keys.old history_skips.old) (scratch keys.new places.new own.new history_keys.new history_skips.new) (outputs words.old frames.old segments.old ends.old costs.old) (outputs words.new frames.new segments.new ends.new costs.new)) told_count result }
 {
-    listed_count(decoder_reads::alternatives(
+    Count::from(decoder_reads::alternatives(
         tokens,
         sums,
         records,
@@ -335,9 +332,9 @@ pub extern "C" fn hirqazhom_reading_list(
     costs: &mut [f32],
 ) -> Count
     requires { ReadingsLeft tokens.now sums.now records.now labels.now gaps.now finals.now (length keys.old ∷ length places.old ∷ length own.old ∷ length heads.old ∷ length list.old ∷ []) (length lists.old / 2 ∷ length route.old ∷ length history_keys.old / 2 ∷ length history_skips.old / 2 ∷ []) (kept_places (length kept_hashes.old) (length kept_links.old) (length kept_sums.old)) (length keys.old ∷ length order.old ∷ (length list.old - decoder.graph.states) ∷ []) decoder }
-    ensures { FormOf (ReadingsIs tokens.now sums.now records.now labels.now gaps.now finals.now decoder use_final listed max (entry_places (length entry_hashes.old) (length entry_nexts.old) (length entry_sums.old)) (kept_places (length kept_hashes.old) (length kept_links.old) (length kept_sums.old)) (listScratch keys.old places.old own.old heads.old list.old lists.old route.old history_keys.old history_skips.old entry_hashes.old entry_nexts.old entry_sums.old kept_hashes.old kept_links.old kept_sums.old order.old) (listScratch keys.new places.new own.new heads.new list.new lists.new route.new history_keys.new history_skips.new entry_hashes.new entry_nexts.new entry_sums.new kept_hashes.new kept_links.new kept_sums.new order.new) (listOutputs words.old frames.old segments.old numbers.old costs.old) (listOutputs words.new frames.new segments.new numbers.new costs.new)) reading_count result }
+    ensures { FormOf (ReadingsIs tokens.now sums.now records.now labels.now gaps.now finals.now decoder use_final listed max (entry_places (length entry_hashes.old) (length entry_nexts.old) (length entry_sums.old)) (kept_places (length kept_hashes.old) (length kept_links.old) (length kept_sums.old)) (listScratch keys.old places.old own.old heads.old list.old lists.old route.old history_keys.old history_skips.old entry_hashes.old entry_nexts.old entry_sums.old kept_hashes.old kept_links.old kept_sums.old order.old) (listScratch keys.new places.new own.new heads.new list.new lists.new route.new history_keys.new history_skips.new entry_hashes.new entry_nexts.new entry_sums.new kept_hashes.new kept_links.new kept_sums.new order.new) (listOutputs words.old frames.old segments.old numbers.old costs.old) (listOutputs words.new frames.new segments.new numbers.new costs.new)) told_count result }
 {
-    reading_count(decoder_readings::reading_list(
+    Count::from(decoder_readings::reading_list(
         tokens,
         sums,
         records,
@@ -379,7 +376,7 @@ pub extern "C" fn hirqazhom_reading_list(
 pub extern "C" fn hirqazhom_silence_new(weight: f32, subsampling: u32) -> Silence
     ensures { FormOf (NewRight weight subsampling) silence_of result }
 {
-    silence_of(SilenceWeighting::new(weight, subsampling))
+    Silence::from(SilenceWeighting::new(weight, subsampling))
 }
 
 // Whether the weighting makes a difference.
@@ -404,7 +401,7 @@ pub extern "C" fn hirqazhom_silence_traceback(
 ) -> Silence
     ensures { FormOf (λ n. TracebackRight state silence_phones.now phones.now starts.now ends.now num_frames_decoded status.old weights.old n status.new weights.new) silence_of result }
 {
-    silence_of(state.compute_current_traceback(
+    Silence::from(state.compute_current_traceback(
         silence_phones,
         phones,
         starts,
@@ -428,7 +425,7 @@ pub extern "C" fn hirqazhom_silence_deltas(
 ) -> Silence
     ensures { FormOf (λ w. DeltasRight state num_frames_ready first_decoder_frame (record { status = status.entry.now; weights = weights.old; frames = frames.old; deltas = deltas.old }) w (record { status = status.exit.now; weights = weights.new; frames = frames.new; deltas = deltas.new })) weighed_of result }
 {
-    weighed_silence(state.get_delta_weights(
+    Silence::from(state.get_delta_weights(
         num_frames_ready,
         first_decoder_frame,
         status,
@@ -446,9 +443,9 @@ pub extern "C" fn hirqazhom_trailing_silence_frames(
     starts: &[u32],
     ends: &[u32],
 ) -> Count
-    ensures { FormOf (TrailingRight silence_phones.now phones.now starts.now ends.now) trailing_count result }
+    ensures { FormOf (TrailingRight silence_phones.now phones.now starts.now ends.now) told_count result }
 {
-    trailing_count(silence_weighting::trailing_silence_frames(silence_phones, phones, starts, ends))
+    Count::from(silence_weighting::trailing_silence_frames(silence_phones, phones, starts, ends))
 }
 
 // The first reading that has the word, counted from 0. The words of reading i end before `ends[i]`. Refused by 11 where ends fall or pass the words.
@@ -456,7 +453,7 @@ pub extern "C" fn hirqazhom_trailing_silence_frames(
 pub extern "C" fn hirqazhom_find(word: i32, ends: &[u32], words: &[i32]) -> Index
     ensures { FormOf (λ f. found_of f ≡ first_reading word (listing ends.now words.now)) found_index result }
 {
-    index_of(reading_search::find(word, ends, words))
+    Index::from(reading_search::find(word, ends, words))
 }
 
 // The bytes of a block of four-byte numbers by their place in the number: all first bytes, then all second, third and fourth. Gives 0; or 20, and the output
@@ -482,16 +479,16 @@ pub extern "C" fn hirqazhom_unshuffle(block: &[u8], output: &mut [u8]) -> u32
 pub extern "C" fn hirqazhom_course(frame: u32, courses: u32, frames: u32) -> CourseAt
     ensures { FormOf (λ c. c ≡ course_at frame courses frames) course_numbers result }
 {
-    course_numbers(courses::course_at(frame, courses, frames))
+    CourseAt::from(courses::course_at(frame, courses, frames))
 }
 
 // Writes the line of a refusal, for a fitter to read: its number, its name and its place. Gives its length, at most 96; what lies behind it is unchanged. Refused by 16
 // where the slice is shorter than the line: nothing is written. A verdict with number 0, or with a place that its number cannot have, has the empty line.
 #[unsafe(no_mangle)]
 pub extern "C" fn hirqazhom_write_line(verdict: Verdict, line: &mut [u8]) -> Count
-    ensures { FormOf (λ w. WrittenLine (refusal_told verdict) line.old w line.new) line_count result }
+    ensures { FormOf (λ w. WrittenLine (refusal_told verdict) line.old w line.new) told_count result }
 {
-    line_count(refusal_lines::write_line(refusal_told(verdict), line))
+    Count::from(refusal_lines::write_line(Refusal::from(verdict), line))
 }
 
 // The refusal whose line the bytes are; number 0 where they are no refusal's.
@@ -499,5 +496,5 @@ pub extern "C" fn hirqazhom_write_line(verdict: Verdict, line: &mut [u8]) -> Cou
 pub extern "C" fn hirqazhom_read_line(bytes: &[u8]) -> Verdict
     ensures { FormOf (ReadLine bytes.now) line_verdict result }
 {
-    line_verdict(refusal_lines::read_line(bytes))
+    Verdict::from(refusal_lines::read_line(bytes))
 }

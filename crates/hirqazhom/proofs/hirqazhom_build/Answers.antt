@@ -4,4 +4,4 @@ use Rattle.c_answers.specs.Forms.{built_verdict}
 use Rattle.hirqazhom.proofs.hirqazhom_build.Goals as goal
 
 pub returns : goal.returns
-returns c = c.built_verdict.ensures ∙ ap built_verdict c.build.ensures
+returns c = c.from.ensures ∙ ap built_verdict c.build.ensures

@@ -8,5 +8,5 @@ returns c =
     record {
       answer = c.find.result;
       is = rw (to_z-of_z w32 c.args.word c.ranges.word) at c.find.ensures;
-      told = c.index_of.ensures;
+      told = c.from.ensures;
     }

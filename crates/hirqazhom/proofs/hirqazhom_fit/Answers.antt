@@ -4,4 +4,4 @@ use Rattle.hirqazhom.proofs.hirqazhom_fit.Goals as goal
 
 pub returns : goal.returns
 returns c =
-    record { answer = c.fit.result; is = c.fit.ensures; told = c.fitted_answer.ensures }
+    record { answer = c.fit.result; is = c.fit.ensures; told = c.from.ensures }

@@ -7,6 +7,6 @@ returns c =
     let call = c.write_line in
     record {
       answer = call.result;
-      is = rw c.refusal_told.ensures at call.ensures;
-      told = c.line_count.ensures;
+      is = rw c.from.ensures at call.ensures;
+      told = c.from-2.ensures;
     }
