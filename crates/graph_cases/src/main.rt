@@ -3,15 +3,11 @@
 
 ghost use Rattle.std.specs.Prelude.{◌≤◌, ◌≡◌, length};
 
-use fst::{Built, Graph, NO_STATE};
-use refusals::Place;
+use fst::{Graph, NO_STATE};
+use refusals::{Place, Refusal};
 
-// The bits of weights at the edges.
-const NAN: u32 = 0x7fc0_0000;
-
-const INFINITY: u32 = 0x7f80_0000;
-
-const MINUS_INFINITY: u32 = 0xff80_0000;
+// 2^100, which no weight may reach.
+const BOUND: f32 = 1267650600228229401496703205376.0;
 
 fn main() {
     offsets();
@@ -34,21 +30,20 @@ fn text(t: &[u8]) {
 
 fn number(before: &[u8], n: u32) {
     text(before);
-    io::print_decimal(1, n as u64);
+    io::print_decimal(1, u64::from(n));
 }
 
 fn byte(before: &[u8], b: u8) {
-    number(before, b as u32);
+    number(before, u32::from(b));
 }
 
-fn tell(name: &[u8], built: Built) {
+fn tell(name: &[u8], built: Result<Graph, Refusal>) {
     text(name);
     match built {
-        Built::Accepted(g) => tell_graph(g),
-        Built::Refused(r) => {
-            number(b": refused ", r.number);
-            let place = r.place;
-            tell_place(place);
+        Ok(g) => tell_graph(g),
+        Err(refusal) => {
+            number(b": refused ", refusal.number);
+            tell_place(refusal.place);
         }
     }
     text(b"\n");
@@ -159,9 +154,9 @@ fn starts() {
 #[derive(Clone, Copy)]
 struct Case {
     label: i32,
-    // the bits of the arc's weight, and of the state's final weight
-    weight: u32,
-    last: u32,
+    // of the arc, and of the state
+    weight: f32,
+    last: f32,
     target: u32,
     // of transition id 1
     pdf: i32,
@@ -173,8 +168,8 @@ struct Case {
 fn good() -> Case {
     Case {
         label: 1,
-        weight: 0,
-        last: 0,
+        weight: 0.0,
+        last: 0.0,
         target: 0,
         pdf: 0,
         phone: 3,
@@ -188,9 +183,9 @@ fn one_arc(name: &[u8], c: Case) {
         &[0, 1],
         &[c.label],
         &[7],
-        &[script::float_of(c.weight)],
+        &[c.weight],
         &[c.target],
-        &[script::float_of(c.last)],
+        &[c.last],
         &[-1, c.pdf],
         &[0, c.phone],
         c.start,
@@ -265,27 +260,27 @@ fn uneven(name: &[u8], pdfs: usize, phones: usize)
     tell(name, built);
 }
 
-// The same bits as an arc's weight, an epsilon arc's, and a final weight.
-fn with_bits(name: &[u8], bits: u32) {
+// The same value as an arc's weight, an epsilon arc's, and a final weight.
+fn with_weight(name: &[u8], weight: f32) {
     let mut c = good();
-    c.weight = bits;
+    c.weight = weight;
     text(b"arc weight ");
     one_arc(name, c);
     c.label = 0;
     text(b"epsilon weight ");
     one_arc(name, c);
     let mut d = good();
-    d.last = bits;
+    d.last = weight;
     text(b"final weight ");
     one_arc(name, d);
     text(b"is_final of ");
-    one_final(name, bits, 0);
+    one_final(name, weight, 0);
 }
 
 // Whether a state is final, where state 0 is the only one and has this final weight.
-fn one_final(name: &[u8], bits: u32, state: u32) {
+fn one_final(name: &[u8], last: f32, state: u32) {
     text(name);
-    if fst::is_final(&[script::float_of(bits)], state) {
+    if fst::is_final(&[last], state) {
         text(b": yes\n");
     } else {
         text(b": no\n");
@@ -293,20 +288,20 @@ fn one_final(name: &[u8], bits: u32, state: u32) {
 }
 
 fn floats() {
-    with_bits(b"NaN", NAN);
-    with_bits(b"infinity", INFINITY);
-    with_bits(b"-infinity", MINUS_INFINITY);
-    with_bits(b"2^100", 0x7180_0000);
-    with_bits(b"-2^100", 0xf180_0000);
-    with_bits(b"below 2^100", 0x717f_ffff);
-    with_bits(b"above -2^100", 0xf17f_ffff);
-    with_bits(b"greatest", 0x7f7f_ffff);
-    with_bits(b"-0", 0x8000_0000);
-    with_bits(b"least above 0", 0x0000_0001);
-    with_bits(b"greatest below 0", 0x8000_0001);
-    with_bits(b"-1", 0xbf80_0000);
-    one_final(b"is_final of no state", 0, 1);
-    one_final(b"is_final of NO_STATE", 0, NO_STATE);
+    with_weight(b"NaN", f32::NAN);
+    with_weight(b"infinity", f32::INFINITY);
+    with_weight(b"-infinity", f32::NEG_INFINITY);
+    with_weight(b"2^100", BOUND);
+    with_weight(b"-2^100", -BOUND);
+    with_weight(b"below 2^100", BOUND.next_down());
+    with_weight(b"above -2^100", -BOUND.next_down());
+    with_weight(b"greatest", f32::MAX);
+    with_weight(b"-0", -0.0);
+    with_weight(b"least above 0", 0.0f32.next_up());
+    with_weight(b"greatest below 0", -0.0f32.next_up());
+    with_weight(b"-1", -1.0);
+    one_final(b"is_final of no state", 0.0, 1);
+    one_final(b"is_final of NO_STATE", 0.0, NO_STATE);
 }
 
 // ---- two faults
@@ -316,14 +311,14 @@ fn two_faults() {
     let mut c = good();
     c.start = 1;
     c.label = -1;
-    c.last = NAN;
+    c.last = f32::NAN;
     one_arc(b"start, label and final weight", c);
     c.start = 0;
     one_arc(b"label and final weight", c);
     c.target = 1;
     one_arc(b"target, label and final weight", c);
     c.label = 1;
-    c.weight = NAN;
+    c.weight = f32::NAN;
     c.phone = 0;
     one_arc(b"target, phone and weight", c);
     c.target = 0;
@@ -377,19 +372,18 @@ fn three_states(name: &[u8], a: Arcs) {
 }
 
 fn places() {
-    let nan = script::float_of(NAN);
     let mut a = all_good();
     three_states(b"three states", a);
-    a.finals[1] = script::float_of(MINUS_INFINITY);
-    a.finals[2] = nan;
+    a.finals[1] = f32::NEG_INFINITY;
+    a.finals[2] = f32::NAN;
     three_states(b"two final weights", a);
     a.labels[3] = -1;
     three_states(b"final weights and the last arc", a);
-    a.weights[2] = nan;
+    a.weights[2] = f32::NAN;
     three_states(b"two arcs of a state", a);
     a.targets[1] = 3;
     three_states(b"three arcs of a state", a);
-    a.weights[0] = nan;
+    a.weights[0] = f32::NAN;
     three_states(b"arcs of two states", a);
 }
 
@@ -410,7 +404,7 @@ fn largest() {
     states(b"65535 states", 65535, 65534);
     states(b"65535 states, start past them", 65535, 65535);
     states(b"65536 states", 65536, 0);
-    let table = id_places();
+    let table = [1; 65538];
     ids(b"65536 ids", &table, 65536, 65537, 65537);
     ids(b"65536 ids, label past them", &table, 65537, 65537, 65537);
     ids(b"65537 pdfs", &table, 1, 65538, 65537);
@@ -421,8 +415,8 @@ fn largest() {
 fn states(name: &[u8], count: usize, start: u32)
     requires { count ≤ 65536 }
 {
-    let offsets = offset_places();
-    let finals = final_places();
+    let offsets = [0; 65537];
+    let finals = [0.0; 65536];
     let built = fst::build(
         &offsets[..count + 1],
         &[],
@@ -455,24 +449,4 @@ fn ids(name: &[u8], table: &[i32], label: i32, pdfs: usize, phones: usize)
         2,
     );
     tell(name, built);
-}
-
-// Places for the offsets of 65,536 states. The `ensures` gives the length alone, which lending the array as a slice needs.
-fn offset_places() -> [u32; 65537]
-    ensures { 65537 ≡ length result }
-{
-    [0; 65537]
-}
-
-fn final_places() -> [f32; 65536]
-    ensures { 65536 ≡ length result }
-{
-    [0.0; 65536]
-}
-
-// Pdf 1 or phone 1 for each of 65,537 transition ids, and entry 0.
-fn id_places() -> [i32; 65538]
-    ensures { 65538 ≡ length result }
-{
-    [1; 65538]
 }

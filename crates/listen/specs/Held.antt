@@ -1,5 +1,5 @@
 -- What the program holds between its calls of the decoder. Assumes nothing.
-use Rattle.std.specs.Prelude.{◌≡◌, refl, ℕ, List, Float, length}
+use Rattle.std.specs.Prelude.{◌≡◌, refl, ℕ, List, Float, length, Result, Ok}
 use Rattle.std.proofs.Common.{sym, subst, ◌∙◌}
 use Rattle.model.specs.Graph.{Graph}
 use Rattle.model.specs.Calls.{frame_call}
@@ -10,12 +10,11 @@ use Rattle.checks.specs.declared.Lengths.{Lengths}
 use Rattle.decoder.specs.declared.Decoder.{Decoder}
 use Rattle.decoder.specs.declared.Called.{Called}
 use Rattle.decoder.specs.declared.Called.TheVariants.{Done}
-use Rattle.decoder.specs.declared.Fitted.{Fitted}
-use Rattle.decoder.specs.declared.Fitted.TheVariants.{Done as FitDone}
 use Rattle.decoder.specs.Promises.{FrameIs, FitIs, FrameLeft}
 use Rattle.decoder.specs.Behaves.{value_of}
 use Rattle.decoder.specs.Held.{Held, HeldFitted}
 use Rattle.decoder.proofs.Held.{held_asked, call_held, fit_held}
+use Rattle.refusals.specs.declared.Refusal.{Refusal}
 
 -- of the slices that the fitting has judged, frames need a scratch that is as long
 pub record Hearing (T : Tables) (m : Lent) (finals : List Float) (eps : List ℕ) (places scratch : ℕ) (d : Decoder) : Type 0 where
@@ -24,7 +23,7 @@ pub record Hearing (T : Tables) (m : Lent) (finals : List Float) (eps : List ℕ
   pub as_long : lengths.scratch ≡ scratch
 
 -- after a fitting
-pub fit_hears : {g : Graph} {T : Tables} {m m' : Lent} {l : Lengths} {qs qs' eps eps' : List ℕ} {c : Config} {f : Fitted} {d : Decoder} → FitIs g T m m' l qs qs' eps eps' c f → f ≡ FitDone d → length qs' ≡ length qs → Hearing T m' g.finals eps' (length qs') l.scratch d
+pub fit_hears : {g : Graph} {T : Tables} {m m' : Lent} {l : Lengths} {qs qs' eps eps' : List ℕ} {c : Config} {f : Result Called Refusal} {d : Decoder} → FitIs g T m m' l qs qs' eps eps' c f → f ≡ Ok (Done d) → length qs' ≡ length qs → Hearing T m' g.finals eps' (length qs') l.scratch d
 fit_hears {g} {T} {m' = m'} {l} {qs} {eps' = eps'} {d = d} F e p = record { lengths = l; held = subst (λ (n : ℕ). Held T m' g.finals eps' n l d) (sym p) (subst (HeldFitted T m' g.finals eps' (length qs) l) e (fit_held F)); as_long = refl }
 
 module _ {T : Tables} {m : Lent} {finals : List Float} {eps : List ℕ} {d : Decoder} where

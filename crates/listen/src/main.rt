@@ -13,8 +13,7 @@ ghost use Rattle.listen.specs.Held.{Hearing};
 
 use courses::Course;
 use cutoff::Config;
-use decoder::{Called, Decoder, Fitted};
-use refusal_lines::Written;
+use decoder::{Called, Decoder};
 use refusals::{Place, Refusal};
 use traceback::BestPath;
 
@@ -176,9 +175,8 @@ fn listen(
         SOUNDS,
         config(),
     ) {
-        Fitted::Unfit(why) => write_refusal(why),
-        Fitted::Refused(_, why) => write_refusal(why),
-        Fitted::Done(d) => hear_frames(
+        Err(why) | Ok(Called::Refused(_, why)) => write_refusal(why),
+        Ok(Called::Done(d)) => hear_frames(
             &mut tokens,
             &mut sums,
             &mut records,
@@ -267,12 +265,9 @@ fn write_best(
         &mut frames,
         &mut segments,
     ) {
-        BestPath::Refused(number) => write_refusal(Refusal {
-            number,
-            place: Place::Nowhere,
-        }),
-        BestPath::Nobody => write_text(b"nothing was heard\n"),
-        BestPath::Found(size, _) => {
+        Err(reason) => write_refusal(reason.at(Place::Nowhere)),
+        Ok(None) => write_text(b"nothing was heard\n"),
+        Ok(Some(BestPath { size, .. })) => {
             let n = size.words as usize;
             write_words(&words, &frames, n, decoder_reads::frames_decoded(d));
         }
@@ -282,10 +277,8 @@ fn write_best(
 fn write_words(words: &[i32], frames: &[u32], n: usize, end: u32)
     requires { (n ≤ length words.now) × (n ≤ length frames.now) }
 {
-    let mut i = 0;
-    while i < n {
+    for i in 0..n {
         write_word(words[i], frames[i], next_start(frames, i, n, end));
-        i += 1;
     }
 }
 
@@ -311,10 +304,10 @@ fn write_word(word: i32, from: u32, to: u32) {
 // The course on the needles in a frame.
 fn write_course(frame: u32) {
     match courses::course_at(frame, COURSES, COURSE_FRAMES) {
-        Course::At { course, .. } => {
-            io::print_decimal(STDOUT_FILENO, course as u64);
+        Ok(Course { course, .. }) => {
+            io::print_decimal(STDOUT_FILENO, u64::from(course));
         }
-        Course::Refused(_) => write_text(b"unknown"),
+        Err(_) => write_text(b"unknown"),
     }
 }
 
@@ -330,7 +323,7 @@ fn write_name(word: i32) {
 // The line of a refusal. It fits.
 fn write_refusal(why: Refusal) {
     let mut line = [0u8; refusals::MAX_LINE];
-    let Written::Length(n) = refusal_lines::write_line(why, &mut line) else {
+    let Ok(n) = refusal_lines::write_line(why, &mut line) else {
         return;
     };
     write_text(&line[..n]);

@@ -1,8 +1,8 @@
 -- Places in the script, and how a run of calls goes on along it. Assumes nothing.
-use Rattle.std.specs.Prelude.{◌≡◌, ℕ, suc, ◌+◌, ◌-◌, ◌≤◌, ◌<◌, List}
+use Rattle.std.specs.Prelude.{◌≡◌, ℕ, suc, ◌+◌, ◌-◌, ◌≤◌, ◌<◌, List, Option, Some, None, Result, Ok, Err}
 use Rattle.std.proofs.Common.{subst, sym, arith}
 use Rattle.script.specs.declared.Record.{Record}
-use Rattle.script.specs.declared.NextRecord.{NextRecord}
+use Rattle.script.specs.declared.CutShort.{CutShort}
 use Rattle.script.specs.Words.{word_count}
 use Rattle.script.specs.Records.{record_at, whole_within}
 use Rattle.replay_payloads.specs.Payloads.{Inside}
@@ -10,15 +10,15 @@ use Rattle.replay.specs.declared.Stop.{Stop}
 use Rattle.replay.specs.declared.graphs.Turn.{Turn}
 
 -- a record that starts at a place lies within so many words
-abbrev pub RecordFrom : (n at : ℕ) → NextRecord → Type 0
-RecordFrom n at (NextRecord.Whole r) = (r.start ≡ at + 2) × (r.start + r.count ≤ n)
-RecordFrom n at NextRecord.Short = Unit {0}
-RecordFrom n at NextRecord.End = Unit {0}
+abbrev pub RecordFrom : (n at : ℕ) → Result (Option Record) CutShort → Type 0
+RecordFrom n at (Ok (Some r)) = (r.start ≡ at + 2) × (r.start + r.count ≤ n)
+RecordFrom n at (Ok None) = Unit {0}
+RecordFrom n at (Err e) = Unit {0}
 
-pub record_from : (bs : List ℕ) (at : ℕ) (t : NextRecord) → t ≡ record_at bs at → RecordFrom (word_count bs) at t
-record_from bs at (NextRecord.Whole r) e = whole_within bs at r e
-record_from bs at NextRecord.Short e = tt
-record_from bs at NextRecord.End e = tt
+pub record_from : (bs : List ℕ) (at : ℕ) (t : Result (Option Record) CutShort) → t ≡ record_at bs at → RecordFrom (word_count bs) at t
+record_from bs at (Ok (Some r)) e = whole_within bs at r e
+record_from bs at (Ok None) e = tt
+record_from bs at (Err z) e = tt
 
 -- a run of calls ends at a record of the script, behind a place
 abbrev pub Behind : List ℕ → ℕ → Stop → Type 0

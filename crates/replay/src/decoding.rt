@@ -1,5 +1,5 @@
 // The calls on a decoder.
-ghost use Rattle.std.specs.Prelude.{length};
+ghost use Rattle.std.specs.Prelude.{length, IfOk};
 ghost use Rattle.stores.specs.Rep.{lent};
 ghost use Rattle.nonemitting.specs.Expand.{graph_tables};
 ghost use Rattle.replay_places.specs.Held.{Held};
@@ -11,11 +11,11 @@ use crate::Stop;
 use crate::graphs::{Turn, try_new};
 use decoder::Decoder;
 use replay_answers::{FRAME, KEEP, START};
-use replay_calls::Answered;
 use replay_payloads::Loan;
-use script::{NextRecord, Record};
+use script::{CutShort, Record};
 
 // Answers each call up to the next decoder or graph.
+#[tactic(auto, using(script::specs::Records::whole_within, crate::specs::Places::stops_behind))]
 pub fn on_decoder(
     calls: &[u8],
     from: usize,
@@ -39,43 +39,35 @@ pub fn on_decoder(
     start: u32,
     pdfs: u32,
     decoder: Decoder,
-) -> Stop
+) -> Result<Stop, CutShort>
     requires { Held (graph_tables offsets.now ilabels.now olabels.now weights.now nextstates.now tid2pdf.now tid2phone.now) (lent tokens.old sums.old records.old labels.old gaps.old) finals.now eps.now (length queue.old) (length scratch.old) decoder }
-    ensures { Behind calls.now from result }
+    ensures { IfOk result (Behind calls.now from) }
 {
     let mut d = decoder;
     let mut at = from;
-    loop {
-        match script::record_at(calls, at) {
-            NextRecord::Whole(r) => {
-                at = r.start + r.count;
-                match try_new(
-                    calls, r, offsets, ilabels, olabels, weights, nextstates, finals, tid2pdf,
-                    tid2phone, start, pdfs,
-                ) {
-                    Turn::Stopped(stop) => return stop,
-                    Turn::Left => (),
-                    Turn::Other => {
-                        match answer(
-                            calls, r, loan, tokens, sums, records, labels, gaps, queue, scratch,
-                            eps, offsets, ilabels, olabels, weights, nextstates, finals, tid2pdf,
-                            tid2phone, d,
-                        ) {
-                            Answered::Next(next) => d = next,
-                            Answered::Over => return Stop::End,
-                        }
-                    }
-                }
+    while let Some(r) = script::record_at(calls, at)? {
+        at = r.start + r.count;
+        match try_new(
+            calls, r, offsets, ilabels, olabels, weights, nextstates, finals, tid2pdf, tid2phone,
+            start, pdfs,
+        ) {
+            Turn::Stopped(stop) => return Ok(stop),
+            Turn::Left => (),
+            Turn::Other => {
+                let Some(next) = answer(
+                    calls, r, loan, tokens, sums, records, labels, gaps, queue, scratch, eps,
+                    offsets, ilabels, olabels, weights, nextstates, finals, tid2pdf, tid2phone, d,
+                ) else {
+                    return Ok(Stop::End);
+                };
+                d = next;
             }
-            NextRecord::Short => {
-                replay_answers::say_fault(0);
-                return Stop::End;
-            }
-            NextRecord::End => return Stop::End,
         }
     }
+    Ok(Stop::End)
 }
 
+// Gives the decoder after a call; none where the call did not fit.
 fn answer(
     calls: &[u8],
     r: Record,
@@ -97,7 +89,7 @@ fn answer(
     tid2pdf: &[i32],
     tid2phone: &[i32],
     d: Decoder,
-) -> Answered
+) -> Option<Decoder>
     requires inside { Inside calls.now r }
     requires held { Held (graph_tables offsets.now ilabels.now olabels.now weights.now nextstates.now tid2pdf.now tid2phone.now) (lent tokens.old sums.old records.old labels.old gaps.old) finals.now eps.now (length queue.old) (length scratch.old) d }
     ensures { AnsweredLeft (graph_tables offsets.now ilabels.now olabels.now weights.now nextstates.now tid2pdf.now tid2phone.now) (lent tokens.new sums.new records.new labels.new gaps.new) finals.now eps.now (length queue.old) (length scratch.old) result }
@@ -117,11 +109,8 @@ fn answer(
     if r.kind == KEEP {
         return replay_calls::keep(calls, r, loan, d);
     }
-    let goes = replay_reads::read(
+    replay_reads::read(
         calls, r, loan, tokens, sums, records, labels, gaps, finals, d,
-    );
-    if goes {
-        return Answered::Next(d);
-    }
-    Answered::Over
+    )
+    .then_some(d)
 }

@@ -1,16 +1,16 @@
 // Fits: one is tried in stores of its own, and made in those that its calls work on.
-ghost use Rattle.std.specs.Prelude.{◌+◌};
+ghost use Rattle.std.specs.Prelude.{◌+◌, IfOk};
 ghost use Rattle.replay_payloads.specs.Payloads.{Inside};
 ghost use Rattle.replay.specs.Places.{Behind};
 
 use crate::Stop;
 use crate::decoding::on_decoder;
-use decoder::Fitted;
+use decoder::Called;
+use refusals::{Reason, Refusal};
 use replay_answers::FIT;
-use replay_calls::Answered;
 use replay_graph::Tried;
 use replay_payloads::{Loan, MOST_RECORDS};
-use script::Record;
+use script::{CutShort, Record};
 
 pub fn try_fit(
     calls: &[u8],
@@ -38,7 +38,7 @@ pub fn try_fit(
     }
     // the program has no such store to lend, and answers for the library
     if MOST_RECORDS < replay_payloads::asked(calls, r, 5, MOST_RECORDS) {
-        replay_answers::say(FIT, 6);
+        replay_answers::say_refused(FIT, Reason::BadSetting);
         return Tried::Left;
     }
     fit_apart(
@@ -64,14 +64,14 @@ fn fit_apart(
 ) -> Tried
     requires { Inside calls.now r }
 {
-    let mut tokens = replay_places::token_places();
-    let mut sums = replay_places::sum_places();
-    let mut records = replay_places::record_places();
-    let mut labels = replay_places::word_places();
-    let mut gaps = replay_places::gap_places();
-    let mut queue = replay_places::queue_places();
-    let scratch = replay_places::cost_places();
-    let mut eps = replay_places::eps_places();
+    let mut tokens: [u32; 32768] = script::places(0);
+    let mut sums: [f32; 16384] = script::places(0.0);
+    let mut records: [u32; 65536] = script::places(0);
+    let mut labels: [i32; 16384] = script::places(0);
+    let mut gaps: [f32; 16384] = script::places(0.0);
+    let mut queue: [u32; 16384] = script::places(0);
+    let scratch: [f32; 4096] = script::places(0.0);
+    let mut eps: [u8; 4096] = script::places(0);
     let loan = replay_payloads::loan_of(calls, r);
     let p = loan.places;
     let n = loan.records;
@@ -99,13 +99,13 @@ fn fit_apart(
     ))
 }
 
-fn say_unfit(fitted: Fitted) -> Tried {
+fn say_unfit(fitted: Result<Called, Refusal>) -> Tried {
     match fitted {
-        Fitted::Unfit(why) => {
+        Err(why) => {
             replay_answers::say_refusal(FIT, why);
             Tried::Left
         }
-        _ => Tried::Taken,
+        Ok(_) => Tried::Taken,
     }
 }
 
@@ -123,18 +123,18 @@ pub fn with_stores(
     tid2phone: &[i32],
     start: u32,
     pdfs: u32,
-) -> Stop
+) -> Result<Stop, CutShort>
     requires { Inside calls.now r }
-    ensures { Behind calls.now (r.start + r.count) result }
+    ensures { IfOk result (Behind calls.now (r.start + r.count)) }
 {
-    let mut tokens = replay_places::token_places();
-    let mut sums = replay_places::sum_places();
-    let mut records = replay_places::record_places();
-    let mut labels = replay_places::word_places();
-    let mut gaps = replay_places::gap_places();
-    let mut queue = replay_places::queue_places();
-    let mut scratch = replay_places::cost_places();
-    let mut eps = replay_places::eps_places();
+    let mut tokens: [u32; 32768] = script::places(0);
+    let mut sums: [f32; 16384] = script::places(0.0);
+    let mut records: [u32; 65536] = script::places(0);
+    let mut labels: [i32; 16384] = script::places(0);
+    let mut gaps: [f32; 16384] = script::places(0.0);
+    let mut queue: [u32; 16384] = script::places(0);
+    let mut scratch: [f32; 4096] = script::places(0.0);
+    let mut eps: [u8; 4096] = script::places(0);
     let loan = replay_payloads::loan_of(calls, r);
     let p = loan.places;
     let n = loan.records;
@@ -186,9 +186,9 @@ fn fit(
     tid2phone: &[i32],
     start: u32,
     pdfs: u32,
-) -> Stop
+) -> Result<Stop, CutShort>
     requires { Inside calls.now r }
-    ensures { Behind calls.now (r.start + r.count) result }
+    ensures { IfOk result (Behind calls.now (r.start + r.count)) }
 {
     let fitted = replay_calls::fit(
         tokens,
@@ -212,7 +212,7 @@ fn fit(
         replay_payloads::config_of(calls, r.start),
     );
     match replay_calls::say_fitted(loan, fitted) {
-        Answered::Next(d) => on_decoder(
+        Some(d) => on_decoder(
             calls,
             r.start + r.count,
             loan,
@@ -236,6 +236,6 @@ fn fit(
             pdfs,
             d,
         ),
-        Answered::Over => Stop::End,
+        None => Ok(Stop::End),
     }
 }

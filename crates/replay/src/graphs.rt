@@ -1,29 +1,29 @@
 // The calls on a graph: those before its first decoder, then those on each decoder.
-ghost use Rattle.std.specs.Prelude.{◌+◌};
+ghost use Rattle.std.specs.Prelude.{◌+◌, IfOk};
 ghost use Rattle.replay_payloads.specs.Payloads.{Inside};
 ghost use Rattle.replay.specs.Places.{Behind, TurnAt, TurnsTo};
 
 use crate::Stop;
 use crate::fits::{try_fit, with_stores};
 use replay_answers::{FIT, GRAPH};
-use replay_graph::Tried;
-use script::{NextRecord, Record};
+use replay_graph::{Tried, slice_of};
+use script::{CutShort, Record};
 
 // The calls on an accepted graph.
-pub fn with_graph(calls: &[u8], r: Record) -> Stop
+pub fn with_graph(calls: &[u8], r: Record) -> Result<Stop, CutShort>
     requires { Inside calls.now r }
-    ensures { Behind calls.now (r.start + r.count) result }
+    ensures { IfOk result (Behind calls.now (r.start + r.count)) }
 {
     let end = r.start + r.count;
     let g = replay_graph::shape_of(calls, r.start, end);
-    let finals = replay_graph::finals_of(calls, g.finals);
-    let offsets = replay_graph::offsets_of(calls, g.offsets);
-    let ilabels = replay_graph::labels_of(calls, g.ilabels);
-    let olabels = replay_graph::labels_of(calls, g.olabels);
-    let weights = replay_graph::weights_of(calls, g.weights);
-    let nextstates = replay_graph::nextstates_of(calls, g.nextstates);
-    let tid2pdf = replay_graph::tids_of(calls, g.tid2pdf);
-    let tid2phone = replay_graph::tids_of(calls, g.tid2phone);
+    let finals: [f32; 4096] = slice_of(calls, g.finals, 0.0);
+    let offsets: [u32; 4097] = slice_of(calls, g.offsets, 0);
+    let ilabels: [i32; 16384] = slice_of(calls, g.ilabels, 0);
+    let olabels: [i32; 16384] = slice_of(calls, g.olabels, 0);
+    let weights: [f32; 16384] = slice_of(calls, g.weights, 0.0);
+    let nextstates: [u32; 16384] = slice_of(calls, g.nextstates, 0);
+    let tid2pdf: [i32; 4096] = slice_of(calls, g.tid2pdf, 0);
+    let tid2phone: [i32; 4096] = slice_of(calls, g.tid2phone, 0);
     on_graph(
         calls,
         end,
@@ -41,6 +41,7 @@ pub fn with_graph(calls: &[u8], r: Record) -> Stop
 }
 
 // The calls before the first fit, then those on each decoder, up to the next graph.
+#[tactic(auto, using(crate::specs::Places::behind_from, crate::specs::Places::fewer_ahead))]
 fn on_graph(
     calls: &[u8],
     from: usize,
@@ -54,27 +55,24 @@ fn on_graph(
     tid2phone: &[i32],
     start: u32,
     pdfs: u32,
-) -> Stop
-    ensures { Behind calls.now from result }
+) -> Result<Stop, CutShort>
+    ensures { IfOk result (Behind calls.now from) }
 {
     let mut stop = before_fit(
         calls, from, offsets, ilabels, olabels, weights, nextstates, finals, tid2pdf, tid2phone,
         start, pdfs,
-    );
-    loop {
-        match stop {
-            Stop::NewFit(r) => {
-                stop = with_stores(
-                    calls, r, offsets, ilabels, olabels, weights, nextstates, finals, tid2pdf,
-                    tid2phone, start, pdfs,
-                );
-            }
-            _ => return stop,
-        }
+    )?;
+    while let Stop::NewFit(r) = stop {
+        stop = with_stores(
+            calls, r, offsets, ilabels, olabels, weights, nextstates, finals, tid2pdf, tid2phone,
+            start, pdfs,
+        )?;
     }
+    Ok(stop)
 }
 
 // Answers each call up to the first fit that makes a decoder, or the next graph.
+#[tactic(auto, using(script::specs::Records::whole_within, crate::specs::Places::stops_behind))]
 fn before_fit(
     calls: &[u8],
     from: usize,
@@ -88,30 +86,22 @@ fn before_fit(
     tid2phone: &[i32],
     start: u32,
     pdfs: u32,
-) -> Stop
-    ensures { Behind calls.now from result }
+) -> Result<Stop, CutShort>
+    ensures { IfOk result (Behind calls.now from) }
 {
     let mut at = from;
-    loop {
-        match script::record_at(calls, at) {
-            NextRecord::Whole(r) => {
-                at = r.start + r.count;
-                match try_new(
-                    calls, r, offsets, ilabels, olabels, weights, nextstates, finals, tid2pdf,
-                    tid2phone, start, pdfs,
-                ) {
-                    Turn::Stopped(stop) => return stop,
-                    Turn::Left => (),
-                    Turn::Other => replay_answers::say_fault(r.kind),
-                }
-            }
-            NextRecord::Short => {
-                replay_answers::say_fault(0);
-                return Stop::End;
-            }
-            NextRecord::End => return Stop::End,
+    while let Some(r) = script::record_at(calls, at)? {
+        at = r.start + r.count;
+        match try_new(
+            calls, r, offsets, ilabels, olabels, weights, nextstates, finals, tid2pdf, tid2phone,
+            start, pdfs,
+        ) {
+            Turn::Stopped(stop) => return Ok(stop),
+            Turn::Left => (),
+            Turn::Other => replay_answers::say_fault(r.kind),
         }
     }
+    Ok(Stop::End)
 }
 
 // What a record is beside a decoder's calls.

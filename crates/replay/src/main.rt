@@ -11,12 +11,13 @@ mod decoding;
 mod fits;
 mod graphs;
 
+ghost use Rattle.std.specs.Prelude.{IfOk};
 ghost use Rattle.replay_payloads.specs.Payloads.{Inside};
 ghost use Rattle.replay.specs.Places.{Behind};
 
 use replay_answers::GRAPH;
 use replay_graph::Tried;
-use script::{NextRecord, Record};
+use script::{CutShort, Record};
 
 // Standard input.
 const STDIN_FILENO: i32 = 0;
@@ -24,7 +25,7 @@ const STDIN_FILENO: i32 = 0;
 // Where a run of calls ends.
 #[derive(Clone, Copy)]
 enum Stop {
-    // the script ends, is cut short, or does not fit
+    // the script ends, or does not fit
     End,
     // a graph that is accepted, a fit that makes a new decoder
     NewGraph(Record),
@@ -34,11 +35,10 @@ enum Stop {
 // The whole script is read at once. One that fills the places may not have ended, and one that ends within a word is cut short: these get a fault for their only
 // answer.
 fn main() {
-    let mut calls = replay_places::script_places();
+    let mut calls: [u8; 1310720] = script::places(0);
     let n = io::read_full(STDIN_FILENO, &mut calls);
-    if n < 1310720 {
-        if n % 4 == 0 {
-            replay(&calls[..n]);
+    if n < 1310720 && n % 4 == 0 {
+        if replay(&calls[..n]).is_ok() {
             return;
         }
     }
@@ -46,38 +46,30 @@ fn main() {
 }
 
 // The calls before the first graph, then those on each graph.
-fn replay(calls: &[u8]) {
-    let mut stop = before_graph(calls);
-    loop {
-        match stop {
-            Stop::NewGraph(r) => stop = graphs::with_graph(calls, r),
-            _ => return,
-        }
+#[tactic(auto, using(crate::specs::Places::behind_from, crate::specs::Places::fewer_ahead))]
+fn replay(calls: &[u8]) -> Result<(), CutShort> {
+    let mut stop = before_graph(calls)?;
+    while let Stop::NewGraph(r) = stop {
+        stop = graphs::with_graph(calls, r)?;
     }
+    Ok(())
 }
 
 // Answers each call up to the first graph that is accepted.
-fn before_graph(calls: &[u8]) -> Stop
-    ensures { Behind calls.now 0 result }
+#[tactic(auto, using(script::specs::Records::whole_within))]
+fn before_graph(calls: &[u8]) -> Result<Stop, CutShort>
+    ensures { IfOk result (Behind calls.now 0) }
 {
     let mut at = 0;
-    loop {
-        match script::record_at(calls, at) {
-            NextRecord::Whole(r) => {
-                at = r.start + r.count;
-                match without_graph(calls, r) {
-                    Tried::Taken => return Stop::NewGraph(r),
-                    Tried::Left => (),
-                    Tried::Over => return Stop::End,
-                }
-            }
-            NextRecord::Short => {
-                replay_answers::say_fault(0);
-                return Stop::End;
-            }
-            NextRecord::End => return Stop::End,
+    while let Some(r) = script::record_at(calls, at)? {
+        at = r.start + r.count;
+        match without_graph(calls, r) {
+            Tried::Taken => return Ok(Stop::NewGraph(r)),
+            Tried::Left => (),
+            Tried::Over => return Ok(Stop::End),
         }
     }
+    Ok(Stop::End)
 }
 
 fn without_graph(calls: &[u8], r: Record) -> Tried

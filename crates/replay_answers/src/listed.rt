@@ -3,7 +3,8 @@ ghost use Rattle.std.specs.Prelude.{◌≤◌, ◌<◌};
 ghost use Rattle.replay_answers.specs.Ends.{EndsWithin};
 
 use crate::paths::{Ends, ends_of, say_path};
-use crate::{READINGS, STDOUT_FILENO, cost_at, label_at, least, less, number_at};
+use crate::{READINGS, STDOUT_FILENO, item_at, number_at, say_words};
+use script::Word;
 
 // The answer of the readings of a list, at most 4,096: their number, then each, then the paths of the first `max`.
 pub fn say_readings(
@@ -15,13 +16,11 @@ pub fn say_readings(
     numbers: &[u64],
     costs: &[f32],
 ) {
-    let k = least(readings, 4096);
-    let t = least(max, k);
+    let k = readings.min(4096);
+    let t = max.min(k);
     say_readings_head(k, t, words_to(numbers, k), traced_to(numbers, t));
-    let mut i = 0;
-    while i < k {
+    for i in 0..k {
         say_group(i, words, numbers, costs);
-        i += 1;
     }
     say_traced(t, words, frames, segments, numbers, costs);
 }
@@ -37,15 +36,12 @@ fn say_traced(
 )
     requires { t ≤ 4096 }
 {
-    let mut out = [0u8; 4];
-    script::put_word(&mut out, 0, t as u32);
-    io::write_all(STDOUT_FILENO, &out);
-    let mut i = 0;
-    while i < t {
+    say_words(&[t as u32]);
+    for i in 0..t {
         let from = traced_to(numbers, i);
         let to = traced_to(numbers, i + 1);
-        say_path(cost_at(costs, 4 * i + 1), words, frames, segments, from, to);
-        i += 1;
+        let cost = item_at(costs, 4 * i + 1, 0.0);
+        say_path(cost, words, frames, segments, from, to);
     }
 }
 
@@ -57,7 +53,7 @@ fn words_to(numbers: &[u64], i: usize) -> usize
     if i == 0 {
         return 0;
     }
-    least(number_at(numbers, 5 * i - 5) as usize, 65536)
+    (number_at(numbers, 5 * i - 5) as usize).min(65536)
 }
 
 // Where the words and the segments of the first i traced readings end.
@@ -75,16 +71,8 @@ fn traced_to(numbers: &[u64], i: usize) -> Ends
 fn say_readings_head(k: usize, t: usize, words: usize, to: Ends)
     requires { (k ≤ 4096) × (t ≤ 4096) × (words ≤ 65536) × EndsWithin to }
 {
-    let mut out = [0u8; 16];
-    script::put_word(&mut out, 0, READINGS);
-    script::put_word(
-        &mut out,
-        1,
-        (3 + 8 * k + words + 3 * t + 2 * to.words + 3 * to.segments) as u32,
-    );
-    script::put_word(&mut out, 2, 0);
-    script::put_word(&mut out, 3, k as u32);
-    io::write_all(STDOUT_FILENO, &out);
+    let count = 3 + 8 * k + words + 3 * t + 2 * to.words + 3 * to.segments;
+    say_words(&[READINGS, count as u32, 0, k as u32]);
 }
 
 // The i-th reading: its rank and cost, how many kept histories it takes, its token's cost, graph sum, phone and seq, and its words, at most one for each record.
@@ -92,13 +80,13 @@ fn say_group(i: usize, words: &[i32], numbers: &[u64], costs: &[f32])
     requires { i < 4096 }
 {
     let from = words_to(numbers, i);
-    let n = least(less(words_to(numbers, i + 1), from), 8192);
+    let n = words_to(numbers, i + 1).saturating_sub(from).min(8192);
     let mut out = [0u8; 32800];
-    script::put_word(&mut out, 0, script::bits_of(cost_at(costs, 4 * i)));
-    script::put_word(&mut out, 1, script::bits_of(cost_at(costs, 4 * i + 1)));
+    script::put_word(&mut out, 0, item_at(costs, 4 * i, 0.0).to_word());
+    script::put_word(&mut out, 1, item_at(costs, 4 * i + 1, 0.0).to_word());
     script::put_word(&mut out, 2, number_at(numbers, 5 * i + 2));
-    script::put_word(&mut out, 3, script::bits_of(cost_at(costs, 4 * i + 2)));
-    script::put_word(&mut out, 4, script::bits_of(cost_at(costs, 4 * i + 3)));
+    script::put_word(&mut out, 3, item_at(costs, 4 * i + 2, 0.0).to_word());
+    script::put_word(&mut out, 4, item_at(costs, 4 * i + 3, 0.0).to_word());
     script::put_word(&mut out, 5, number_at(numbers, 5 * i + 3));
     script::put_word(&mut out, 6, number_at(numbers, 5 * i + 4));
     script::put_word(&mut out, 7, n as u32);
@@ -110,9 +98,7 @@ fn say_group(i: usize, words: &[i32], numbers: &[u64], costs: &[f32])
 fn put_labels(out: &mut [u8], words: &[i32], from: usize, n: usize)
     requires { (from ≤ 65536) × (n ≤ 8192) }
 {
-    let mut i = 0;
-    while i < n {
-        script::put_word(out, 8 + i, script::word_of(label_at(words, from + i)));
-        i += 1;
+    for i in 0..n {
+        script::put_word(out, 8 + i, item_at(words, from + i, 0).to_word());
     }
 }

@@ -2,7 +2,8 @@
 ghost use Rattle.std.specs.Prelude.{◌≤◌};
 ghost use Rattle.replay_answers.specs.Ends.{EndsWithin};
 
-use crate::{ALTERNATIVES, BEST, STDOUT_FILENO, cost_at, label_at, least, less, word_at};
+use crate::{ALTERNATIVES, BEST, STDOUT_FILENO, item_at, say_words};
+use script::Word;
 
 // Where the words and the segments of the first paths end.
 #[derive(Clone, Copy)]
@@ -15,8 +16,8 @@ pub fn ends_of(words: u32, segments: u32) -> Ends
     ensures { EndsWithin result }
 {
     Ends {
-        words: least(words as usize, 16384),
-        segments: least(segments as usize, 16384),
+        words: (words as usize).min(16384),
+        segments: (segments as usize).min(16384),
     }
 }
 
@@ -28,7 +29,7 @@ fn ends_at(list: &[u32], i: usize) -> Ends
     if i == 0 {
         return ends_of(0, 0);
     }
-    ends_of(word_at(list, 2 * i - 2), word_at(list, 2 * i - 1))
+    ends_of(item_at(list, 2 * i - 2, 0), item_at(list, 2 * i - 1, 0))
 }
 
 // The answer of a best path of so many words and segments.
@@ -47,14 +48,12 @@ pub fn say_paths(
     list: &[u32],
     costs: &[f32],
 ) {
-    let k = least(paths, 64);
+    let k = paths.min(64);
     say_head(ALTERNATIVES, k, ends_at(list, k));
-    let mut i = 0;
-    while i < k {
+    for i in 0..k {
         let from = ends_at(list, i);
         let to = ends_at(list, i + 1);
-        say_path(cost_at(costs, i), words, frames, segments, from, to);
-        i += 1;
+        say_path(item_at(costs, i, 0.0), words, frames, segments, from, to);
     }
 }
 
@@ -62,26 +61,18 @@ pub fn say_paths(
 fn say_head(kind: u32, k: usize, to: Ends)
     requires { (k ≤ 64) × EndsWithin to }
 {
-    let mut out = [0u8; 16];
-    script::put_word(&mut out, 0, kind);
-    script::put_word(
-        &mut out,
-        1,
-        (2 + 3 * k + 2 * to.words + 3 * to.segments) as u32,
-    );
-    script::put_word(&mut out, 2, 0);
-    script::put_word(&mut out, 3, k as u32);
-    io::write_all(STDOUT_FILENO, &out);
+    let count = 2 + 3 * k + 2 * to.words + 3 * to.segments;
+    say_words(&[kind, count as u32, 0, k as u32]);
 }
 
 // A path: its cost, its words with their frames, and its segments. It has at most one of each for each record.
 pub fn say_path(cost: f32, words: &[i32], frames: &[u32], segments: &[u32], from: Ends, to: Ends)
     requires { EndsWithin from × EndsWithin to }
 {
-    let n = least(less(to.words, from.words), 8192);
-    let m = least(less(to.segments, from.segments), 8192);
+    let n = to.words.saturating_sub(from.words).min(8192);
+    let m = to.segments.saturating_sub(from.segments).min(8192);
     let mut out = [0u8; 163852];
-    script::put_word(&mut out, 0, script::bits_of(cost));
+    script::put_word(&mut out, 0, cost.to_word());
     script::put_word(&mut out, 1, n as u32);
     put_words(&mut out, words, frames, from.words, n);
     script::put_word(&mut out, 2 + 2 * n, m as u32);
@@ -93,11 +84,9 @@ pub fn say_path(cost: f32, words: &[i32], frames: &[u32], segments: &[u32], from
 fn put_words(out: &mut [u8], words: &[i32], frames: &[u32], from: usize, n: usize)
     requires { (from ≤ 16384) × (n ≤ 8192) }
 {
-    let mut i = 0;
-    while i < n {
-        script::put_word(out, 2 + 2 * i, script::word_of(label_at(words, from + i)));
-        script::put_word(out, 3 + 2 * i, word_at(frames, from + i));
-        i += 1;
+    for i in 0..n {
+        script::put_word(out, 2 + 2 * i, item_at(words, from + i, 0).to_word());
+        script::put_word(out, 3 + 2 * i, item_at(frames, from + i, 0));
     }
 }
 
@@ -105,9 +94,7 @@ fn put_words(out: &mut [u8], words: &[i32], frames: &[u32], from: usize, n: usiz
 fn put_segments(out: &mut [u8], at: usize, segments: &[u32], from: usize, m: usize)
     requires { (at ≤ 20000) × (from ≤ 16384) × (m ≤ 8192) }
 {
-    let mut i = 0;
-    while i < 3 * m {
-        script::put_word(out, at + i, word_at(segments, 3 * from + i));
-        i += 1;
+    for i in 0..3 * m {
+        script::put_word(out, at + i, item_at(segments, 3 * from + i, 0));
     }
 }

@@ -8,12 +8,13 @@ ghost use Rattle.replay_places.specs.Held.{HeldFitted};
 ghost use Rattle.replay_payloads.specs.Payloads.{Inside};
 ghost use Rattle.replay_calls.specs.Held.{GoesOn, GoesOnAll};
 
-use crate::{Answered, say_called};
+use crate::say_called;
 use cutoff::Config;
-use decoder::{Decoder, Fitted};
+use decoder::{Called, Decoder};
+use refusals::Refusal;
 use replay_answers::{FRAME, KEEP, START};
 use replay_payloads::Loan;
-use script::Record;
+use script::{Record, Word};
 
 // A fit with the scratch of the reads, which has to be long enough for them.
 pub fn fit(
@@ -36,12 +37,12 @@ pub fn fit(
     start: u32,
     pdfs: u32,
     config: Config,
-) -> Fitted
+) -> Result<Called, Refusal>
     ensures { HeldFitted (graph_tables offsets.now ilabels.now olabels.now weights.now nextstates.now tid2pdf.now tid2phone.now) (lent tokens.new sums.new records.new labels.new gaps.new) finals.now eps.new (length queue.old) (length scratch.now) result }
 {
-    let keys = replay_places::key_places();
-    let history_keys = replay_places::history_key_places();
-    let all = replay_places::list_places();
+    let keys: [u64; 8192] = script::places(0);
+    let history_keys: [u64; 16384] = script::places(0);
+    let all: [u32; 16384] = script::places(0);
     let numbers: &[u32] = &all;
     decoder::fit(
         tokens,
@@ -97,13 +98,13 @@ pub fn start_again(
     tid2pdf: &[i32],
     tid2phone: &[i32],
     d: Decoder,
-) -> Answered
+) -> Option<Decoder>
     requires { Left (graph_tables offsets.now ilabels.now olabels.now weights.now nextstates.now tid2pdf.now tid2phone.now) (lent tokens.old sums.old records.old labels.old gaps.old) eps.now (length queue.old) d }
     ensures { GoesOn (graph_tables offsets.now ilabels.now olabels.now weights.now nextstates.now tid2pdf.now tid2phone.now) (lent tokens.old sums.old records.old labels.old gaps.old) (lent tokens.new sums.new records.new labels.new gaps.new) eps.now (length queue.old) d result }
 {
     if r.count != 0 {
         replay_answers::say_fault(START);
-        return Answered::Next(d);
+        return Some(d);
     }
     let called = decoder::start(
         tokens, sums, records, labels, gaps, queue, eps, offsets, ilabels, olabels, weights,
@@ -133,13 +134,13 @@ pub fn frame(
     tid2pdf: &[i32],
     tid2phone: &[i32],
     d: Decoder,
-) -> Answered
+) -> Option<Decoder>
     requires { FrameLeft (graph_tables offsets.now ilabels.now olabels.now weights.now nextstates.now tid2pdf.now tid2phone.now) (lent tokens.old sums.old records.old labels.old gaps.old) eps.now (length queue.old) (length scratch.old) d }
     ensures { GoesOn (graph_tables offsets.now ilabels.now olabels.now weights.now nextstates.now tid2pdf.now tid2phone.now) (lent tokens.old sums.old records.old labels.old gaps.old) (lent tokens.new sums.new records.new labels.new gaps.new) eps.now (length queue.old) d result }
 {
     if !script::can_fill(bytes, r.start, r.count, 4096) {
         replay_answers::say_fault(FRAME);
-        return Answered::Over;
+        return None;
     }
     let loglikes = loglikes_of(bytes, r);
     let called = decoder::frame(
@@ -168,13 +169,13 @@ pub fn frame(
 fn loglikes_of(bytes: &[u8], r: Record) -> [f32; 4096]
     ensures { 4096 ≡ length result }
 {
-    let mut out = replay_places::loglike_places();
-    script::fill_f32(bytes, r.start, &mut out, r.count);
+    let mut out = script::places(0.0);
+    script::fill(bytes, r.start, &mut out, r.count);
     out
 }
 
 // The payload is 0, or 1 and a margin.
-pub fn keep(bytes: &[u8], r: Record, loan: Loan, d: Decoder) -> Answered
+pub fn keep(bytes: &[u8], r: Record, loan: Loan, d: Decoder) -> Option<Decoder>
     requires { Inside bytes.now r }
     ensures { GoesOnAll d result }
 {
@@ -186,10 +187,10 @@ pub fn keep(bytes: &[u8], r: Record, loan: Loan, d: Decoder) -> Answered
     }
     if r.count == 2 {
         if first == 1 {
-            let margin = script::float_of(script::word_at(bytes, r.start + 1));
+            let margin = f32::from_word(script::word_at(bytes, r.start + 1));
             return say_called(KEEP, loan, decoder::set_keep(d, true, margin));
         }
     }
     replay_answers::say_fault(KEEP);
-    Answered::Next(d)
+    Some(d)
 }

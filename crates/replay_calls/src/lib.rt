@@ -3,38 +3,30 @@
 
 mod calls;
 
-ghost use Rattle.std.specs.Prelude.{◌≡◌};
-ghost use Rattle.replay_calls.specs.declared.Answered.TheVariants.{Next};
+ghost use Rattle.std.specs.Prelude.{◌≡◌, Some};
 ghost use Rattle.replay_calls.specs.Held.{NextIs, Goes, GoesFitted};
 
 pub use calls::{fit, frame, keep, start_again};
-use decoder::{Called, Decoder, Fitted};
+use decoder::{Called, Decoder};
 use refusals::Refusal;
 use replay_answers::FIT;
 use replay_payloads::Loan;
 
-// The decoder after a call, or a call that did not fit.
-#[derive(Clone, Copy)]
-pub enum Answered {
-    Next(Decoder),
-    Over,
-}
-
-// A fit that is refused for its settings or its stores ends the calls on them.
-pub fn say_fitted(loan: Loan, fitted: Fitted) -> Answered
+// Answers a fit, and gives the decoder after it. One that is refused for its settings or its stores ends the calls on them: none.
+pub fn say_fitted(loan: Loan, fitted: Result<Called, Refusal>) -> Option<Decoder>
     ensures { GoesFitted fitted result }
 {
     match fitted {
-        Fitted::Unfit(why) => {
+        Err(why) => {
             replay_answers::say_refusal(FIT, why);
-            Answered::Over
+            None
         }
-        Fitted::Done(d) => say_done(FIT, d),
-        Fitted::Refused(d, why) => say_refused(FIT, loan, d, why),
+        Ok(called) => say_called(FIT, loan, called),
     }
 }
 
-pub fn say_called(kind: u32, loan: Loan, called: Called) -> Answered
+// Answers a call, and gives the decoder after it; none where the call did not fit.
+pub fn say_called(kind: u32, loan: Loan, called: Called) -> Option<Decoder>
     ensures { Goes called result }
 {
     match called {
@@ -43,21 +35,21 @@ pub fn say_called(kind: u32, loan: Loan, called: Called) -> Answered
     }
 }
 
-fn say_done(kind: u32, d: Decoder) -> Answered
-    ensures { result ≡ Next d }
+fn say_done(kind: u32, d: Decoder) -> Option<Decoder>
+    ensures { result ≡ Some d }
 {
     replay_answers::say(kind, 0);
-    Answered::Next(d)
+    Some(d)
 }
 
 // A store that is shorter than asked for answers for itself alone.
-fn say_refused(kind: u32, loan: Loan, d: Decoder, why: Refusal) -> Answered
+fn say_refused(kind: u32, loan: Loan, d: Decoder, why: Refusal) -> Option<Decoder>
     ensures { NextIs d result }
 {
     if replay_payloads::was_cut(loan, why.number) {
         replay_answers::say_fault(kind);
-        return Answered::Over;
+        return None;
     }
     replay_answers::say_refusal(kind, why);
-    Answered::Next(d)
+    Some(d)
 }

@@ -3,7 +3,7 @@ use Rattle.std.specs.Prelude.{◌≡◌, refl, ℕ, ◌+◌, ◌≤◌, Bool, tr
 use Rattle.std.proofs.Common.{sym, ap, ◌∙◌, zero-le, arith, leb-true, take_at, length-take-le}
 use Rattle.lists.specs.Tests.{and_both}
 use Rattle.script.specs.Words.{word_count, words_from, fitting, Filled}
-use Rattle.script.proofs.Fill.{length_words}
+use Rattle.script.proofs.Stores.{length_words}
 use Rattle.replay_graph.specs.declared.shape.Part.{Part}
 
 -- how many words of a slice an array of so many places holds: all or none

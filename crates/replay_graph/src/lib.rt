@@ -4,18 +4,15 @@
 mod shape;
 
 ghost use Rattle.std.specs.Prelude.{◌≡◌};
-ghost use Rattle.std.specs.Int.{w32};
-ghost use Rattle.std.proofs.Common.{to_z};
-ghost use Rattle.std.specs.Float.{binary32};
-ghost use Rattle.std.specs.Float.Ieee.{of_bits};
 ghost use Rattle.fst.specs.Answer.{build_of};
 ghost use Rattle.replay_payloads.specs.Payloads.{Inside};
 ghost use Rattle.replay_graph.specs.Slices.{Slice, CountIs};
 ghost use Rattle.replay_graph.specs.Tries.{graph_in, tried_by, Tries};
 
-use fst::Built;
+use fst::Graph;
+use refusals::Refusal;
 use replay_answers::GRAPH;
-use script::Record;
+use script::{Record, Word};
 pub use shape::{Part, Shape, shape_of};
 
 // A graph or a fit that was tried.
@@ -41,52 +38,13 @@ pub fn count_of(bytes: &[u8], p: Part, places: usize) -> usize
     }
 }
 
-// A graph's slices at the start of arrays, which stay zeros where a slice does not fit: by states, by arcs, and by transition ids.
-pub fn finals_of(bytes: &[u8], p: Part) -> [f32; 4096]
-    ensures { Slice (of_bits binary32) bytes.now p 4096 result }
+// A graph's slice at the start of an array, whose other places stay as they were; all do where it does not fit.
+#[tactic(auto, using(crate::specs::Slices::filled_slice))]
+pub fn slice_of<T: Word + Copy, const N: usize>(bytes: &[u8], p: Part, zero: T) -> [T; N]
+    ensures { Slice T.of_word bytes.now p N result }
 {
-    let mut out = [0.0; 4096];
-    script::fill_f32(bytes, p.at, &mut out, p.n);
-    out
-}
-
-pub fn offsets_of(bytes: &[u8], p: Part) -> [u32; 4097]
-    ensures { Slice (λ w. w) bytes.now p 4097 result }
-{
-    let mut out = [0; 4097];
-    script::fill_u32(bytes, p.at, &mut out, p.n);
-    out
-}
-
-pub fn labels_of(bytes: &[u8], p: Part) -> [i32; 16384]
-    ensures { Slice (to_z w32) bytes.now p 16384 result }
-{
-    let mut out = [0; 16384];
-    script::fill_i32(bytes, p.at, &mut out, p.n);
-    out
-}
-
-pub fn weights_of(bytes: &[u8], p: Part) -> [f32; 16384]
-    ensures { Slice (of_bits binary32) bytes.now p 16384 result }
-{
-    let mut out = [0.0; 16384];
-    script::fill_f32(bytes, p.at, &mut out, p.n);
-    out
-}
-
-pub fn nextstates_of(bytes: &[u8], p: Part) -> [u32; 16384]
-    ensures { Slice (λ w. w) bytes.now p 16384 result }
-{
-    let mut out = [0; 16384];
-    script::fill_u32(bytes, p.at, &mut out, p.n);
-    out
-}
-
-pub fn tids_of(bytes: &[u8], p: Part) -> [i32; 4096]
-    ensures { Slice (to_z w32) bytes.now p 4096 result }
-{
-    let mut out = [0; 4096];
-    script::fill_i32(bytes, p.at, &mut out, p.n);
+    let mut out = [zero; N];
+    script::fill(bytes, p.at, &mut out, p.n);
     out
 }
 
@@ -113,14 +71,14 @@ pub fn try_graph(bytes: &[u8], r: Record) -> Tried
 fn build(bytes: &[u8], g: Shape) -> Tried
     ensures { result ≡ tried_by (build_of (graph_in bytes.now g)) }
 {
-    let finals = finals_of(bytes, g.finals);
-    let offsets = offsets_of(bytes, g.offsets);
-    let ilabels = labels_of(bytes, g.ilabels);
-    let olabels = labels_of(bytes, g.olabels);
-    let weights = weights_of(bytes, g.weights);
-    let nextstates = nextstates_of(bytes, g.nextstates);
-    let tid2pdf = tids_of(bytes, g.tid2pdf);
-    let tid2phone = tids_of(bytes, g.tid2phone);
+    let finals: [f32; 4096] = slice_of(bytes, g.finals, 0.0);
+    let offsets: [u32; 4097] = slice_of(bytes, g.offsets, 0);
+    let ilabels: [i32; 16384] = slice_of(bytes, g.ilabels, 0);
+    let olabels: [i32; 16384] = slice_of(bytes, g.olabels, 0);
+    let weights: [f32; 16384] = slice_of(bytes, g.weights, 0.0);
+    let nextstates: [u32; 16384] = slice_of(bytes, g.nextstates, 0);
+    let tid2pdf: [i32; 4096] = slice_of(bytes, g.tid2pdf, 0);
+    let tid2phone: [i32; 4096] = slice_of(bytes, g.tid2phone, 0);
     say_built(fst::build(
         &offsets[..count_of(bytes, g.offsets, 4097)],
         &ilabels[..count_of(bytes, g.ilabels, 16384)],
@@ -135,15 +93,15 @@ fn build(bytes: &[u8], g: Shape) -> Tried
     ))
 }
 
-fn say_built(built: Built) -> Tried
+fn say_built(built: Result<Graph, Refusal>) -> Tried
     ensures { result ≡ tried_by built }
 {
     match built {
-        Built::Accepted(_) => {
+        Ok(_) => {
             replay_answers::say(GRAPH, 0);
             Tried::Taken
         }
-        Built::Refused(why) => {
+        Err(why) => {
             replay_answers::say_refusal(GRAPH, why);
             Tried::Left
         }

@@ -25,6 +25,7 @@ pub struct Shape {
 }
 
 // The slice whose length stands at a place, or one behind the payload's end where it does not end within it.
+#[tactic(auto, unfolding(crate::specs::Shapes::part_at))]
 fn part_at(bytes: &[u8], at: usize, end: usize) -> Part
     requires { end ≤ word_count bytes.now }
     ensures { (result ≡ part_at bytes.now at end) × (result.at + result.n ≤ end + 1) }
@@ -82,26 +83,13 @@ pub fn fills(g: Shape, end: usize) -> bool
 }
 
 // Whether the program has places for a graph.
+#[tactic(auto, unfolding(crate::specs::Shapes::fits_here))]
 pub fn fits(g: Shape) -> bool
     ensures { result ≡ fits_here g }
 {
-    if 4096 < g.finals.n {
-        return false;
-    }
-    if 4097 < g.offsets.n {
-        return false;
-    }
-    if 16384 < larger(g.ilabels.n, g.olabels.n) {
-        return false;
-    }
-    if 16384 < larger(g.weights.n, g.nextstates.n) {
-        return false;
-    }
-    larger(g.tid2pdf.n, g.tid2phone.n) <= 4096
-}
-
-fn larger(a: usize, b: usize) -> usize
-    ensures { result ≡ max a b }
-{
-    if a < b { b } else { a }
+    g.finals.n <= 4096
+        && g.offsets.n <= 4097
+        && g.ilabels.n.max(g.olabels.n) <= 16384
+        && g.weights.n.max(g.nextstates.n) <= 16384
+        && g.tid2pdf.n.max(g.tid2phone.n) <= 4096
 }

@@ -7,29 +7,17 @@ ghost use Rattle.replay_payloads.specs.Payloads.{Inside, asked_for, shaped_as, c
 ghost use Rattle.replay_payloads.specs.Lent.{LoanIs, was_cut, LengthsAre, list_fits, all_entries, all_output};
 
 use cutoff::Config;
-use script::Record;
-
-// The refusals of an output that is too short, of a full store of records, of a full queue, and of a full store of entries.
-pub const TOO_SHORT: u32 = 11;
-
-const NO_RECORD: u32 = 13;
-
-const NO_PLACE: u32 = 14;
-
-pub const NO_ENTRY: u32 = 15;
+use refusals::Reason;
+use script::{Record, Word};
 
 // A store of more records is refused.
 pub const MOST_RECORDS: usize = 1_048_576;
 
-pub const NO_LIMIT: usize = 4_294_967_295;
-
-pub fn least(a: usize, b: usize) -> usize
-    ensures { (result ≡ min a b) × (result ≤ b) }
-{
-    if a < b { a } else { b }
-}
+// The greatest number of a script.
+pub const NO_LIMIT: usize = u32::MAX as usize;
 
 // The i-th number of a payload, or another where it is left off.
+#[tactic(auto, unfolding(crate::specs::Payloads::asked_for))]
 pub fn asked(bytes: &[u8], r: Record, i: usize, otherwise: usize) -> usize
     requires { Inside bytes.now r }
     ensures { result ≡ asked_for bytes.now r i otherwise }
@@ -41,16 +29,11 @@ pub fn asked(bytes: &[u8], r: Record, i: usize, otherwise: usize) -> usize
 }
 
 // Whether a read's payload has so many words, of which the first says whether finals are used.
+#[tactic(auto, unfolding(crate::specs::Payloads::shaped_as))]
 pub fn shaped(bytes: &[u8], r: Record, fewest: usize, most: usize) -> bool
     ensures { result ≡ shaped_as bytes.now r fewest most }
 {
-    if r.count < fewest {
-        return false;
-    }
-    if most < r.count {
-        return false;
-    }
-    script::word_at(bytes, r.start) < 2
+    fewest <= r.count && r.count <= most && script::word_at(bytes, r.start) < 2
 }
 
 // ---- a fit
@@ -61,10 +44,10 @@ pub fn config_of(bytes: &[u8], start: usize) -> Config
     ensures { result ≡ config_at bytes.now start }
 {
     Config {
-        beam: script::float_of(script::word_at(bytes, start)),
+        beam: f32::from_word(script::word_at(bytes, start)),
         max_active: script::word_at(bytes, start + 1),
         min_active: script::word_at(bytes, start + 2),
-        beam_delta: script::float_of(script::word_at(bytes, start + 3)),
+        beam_delta: f32::from_word(script::word_at(bytes, start + 3)),
     }
 }
 
@@ -89,9 +72,9 @@ pub fn loan_of(bytes: &[u8], r: Record) -> Loan
     let records = asked(bytes, r, 5, MOST_RECORDS);
     let queue = asked(bytes, r, 6, NO_LIMIT);
     Loan {
-        places: least(places, 4096),
-        records: least(records, 8192),
-        queue: least(queue, 16384),
+        places: places.min(4096),
+        records: records.min(8192),
+        queue: queue.min(16384),
         all_records: records <= 8192,
         all_queue: queue <= 16384,
         below: asked(bytes, r, 7, NO_LIMIT),
@@ -100,13 +83,14 @@ pub fn loan_of(bytes: &[u8], r: Record) -> Loan
 }
 
 // Whether a store that is shorter than asked for was full.
+#[tactic(auto, unfolding(crate::specs::Lent::was_cut))]
 pub fn was_cut(loan: Loan, number: u32) -> bool
     ensures { result ≡ was_cut loan number }
 {
-    if number == NO_RECORD {
+    if number == Reason::RecordsFull.number() {
         return !loan.all_records;
     }
-    if number == NO_PLACE {
+    if number == Reason::QueueFull.number() {
         return !loan.all_queue;
     }
     false
@@ -115,21 +99,16 @@ pub fn was_cut(loan: Loan, number: u32) -> bool
 // ---- alternatives
 
 // Whether the output is as long as asked for, or as long as so many paths of one word and one segment for each record can be.
+#[tactic(auto, unfolding(crate::specs::Lent::list_fits))]
 pub fn list_fits(bytes: &[u8], r: Record, used: usize) -> bool
     requires { Inside bytes.now r × (used < 2 ^ 32) }
     ensures { result ≡ list_fits bytes.now r used }
 {
-    let max = least(script::word_at(bytes, r.start + 1) as usize, 64);
-    if max * used <= 16384 {
-        return true;
-    }
-    if 16384 < asked(bytes, r, 3, NO_LIMIT) {
-        return false;
-    }
-    if 16384 < asked(bytes, r, 4, NO_LIMIT) {
-        return false;
-    }
-    asked(bytes, r, 5, NO_LIMIT) <= 16384
+    let max = (script::word_at(bytes, r.start + 1) as usize).min(64);
+    max * used <= 16384
+        || (asked(bytes, r, 3, NO_LIMIT) <= 16384
+            && asked(bytes, r, 4, NO_LIMIT) <= 16384
+            && asked(bytes, r, 5, NO_LIMIT) <= 16384)
 }
 
 // ---- readings
@@ -150,38 +129,31 @@ pub fn lengths_of(bytes: &[u8], r: Record, loan: Loan) -> Lengths
     ensures { LengthsAre bytes.now r loan result }
 {
     Lengths {
-        below: least(loan.below, 65536),
-        kept: least(loan.kept, 8192),
-        entries: least(asked(bytes, r, 3, NO_LIMIT), 4096),
-        words: least(asked(bytes, r, 4, NO_LIMIT), 65536),
-        frames: least(asked(bytes, r, 5, NO_LIMIT), 16384),
-        segments: least(asked(bytes, r, 6, NO_LIMIT), 16384),
+        below: loan.below.min(65536),
+        kept: loan.kept.min(8192),
+        entries: asked(bytes, r, 3, NO_LIMIT).min(4096),
+        words: asked(bytes, r, 4, NO_LIMIT).min(65536),
+        frames: asked(bytes, r, 5, NO_LIMIT).min(16384),
+        segments: asked(bytes, r, 6, NO_LIMIT).min(16384),
     }
 }
 
 // Whether the stores are as long as asked for.
+#[tactic(auto, unfolding(crate::specs::Lent::all_entries))]
 pub fn all_entries(loan: Loan) -> bool
     ensures { result ≡ all_entries loan }
 {
-    if 65536 < loan.below {
-        return false;
-    }
-    loan.kept <= 8192
+    loan.below <= 65536 && loan.kept <= 8192
 }
 
 // Whether the output is.
+#[tactic(auto, unfolding(crate::specs::Lent::all_output))]
 pub fn all_output(bytes: &[u8], r: Record) -> bool
     requires { Inside bytes.now r }
     ensures { result ≡ all_output bytes.now r }
 {
-    if 4096 < asked(bytes, r, 3, NO_LIMIT) {
-        return false;
-    }
-    if 65536 < asked(bytes, r, 4, NO_LIMIT) {
-        return false;
-    }
-    if 16384 < asked(bytes, r, 5, NO_LIMIT) {
-        return false;
-    }
-    asked(bytes, r, 6, NO_LIMIT) <= 16384
+    asked(bytes, r, 3, NO_LIMIT) <= 4096
+        && asked(bytes, r, 4, NO_LIMIT) <= 65536
+        && asked(bytes, r, 5, NO_LIMIT) <= 16384
+        && asked(bytes, r, 6, NO_LIMIT) <= 16384
 }

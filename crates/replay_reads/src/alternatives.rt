@@ -6,9 +6,9 @@ ghost use Rattle.replay_reads.specs.Reads.{PathsLeft};
 
 use crate::calls::list_paths;
 use decoder::Decoder;
-use readings::Listed;
+use refusals::Reason;
 use replay_answers::ALTERNATIVES;
-use replay_payloads::{NO_LIMIT, TOO_SHORT, asked, least};
+use replay_payloads::{NO_LIMIT, asked};
 use script::Record;
 
 // The payload is whether finals are used, how many paths there are at most, and perhaps the lengths of the output. More than 64 paths are refused, so that 64 entries
@@ -31,15 +31,15 @@ pub fn alternatives(
         replay_answers::say_fault(ALTERNATIVES);
         return true;
     }
-    let e = least(asked(bytes, r, 2, NO_LIMIT), 64);
-    let n = least(asked(bytes, r, 3, NO_LIMIT), 16384);
-    let f = least(asked(bytes, r, 4, NO_LIMIT), 16384);
-    let m = least(asked(bytes, r, 5, NO_LIMIT), 16384);
-    let mut words = replay_places::list_words();
-    let mut frames = replay_places::list_frames();
-    let mut segments = replay_places::list_segments();
-    let mut list = replay_places::list_ends();
-    let mut costs = replay_places::list_costs();
+    let e = asked(bytes, r, 2, NO_LIMIT).min(64);
+    let n = asked(bytes, r, 3, NO_LIMIT).min(16384);
+    let f = asked(bytes, r, 4, NO_LIMIT).min(16384);
+    let m = asked(bytes, r, 5, NO_LIMIT).min(16384);
+    let mut words: [i32; 16384] = script::places(0);
+    let mut frames: [u32; 16384] = script::places(0);
+    let mut segments: [u32; 49152] = script::places(0);
+    let mut list: [u32; 128] = script::places(0);
+    let mut costs: [f32; 64] = script::places(0.0);
     let listed = list_paths(
         tokens,
         sums,
@@ -56,22 +56,22 @@ pub fn alternatives(
         &mut costs[..e],
     );
     match listed {
-        Listed::Refused(number) => say_unlisted(bytes, r, number, d.used),
-        Listed::Paths(_) => true,
+        Err(reason) => say_unlisted(bytes, r, reason, d.used),
+        Ok(_) => true,
     }
 }
 
 // A refusal stands where the output is as long as the script asks for.
-fn say_unlisted(bytes: &[u8], r: Record, number: u32, used: u32) -> bool
+fn say_unlisted(bytes: &[u8], r: Record, reason: Reason, used: u32) -> bool
     requires { Inside bytes.now r }
     ensures { list_fits bytes.now r used ≡ true → result ≡ true }
 {
-    if number == TOO_SHORT {
+    if reason == Reason::TooShort {
         if !replay_payloads::list_fits(bytes, r, used as usize) {
             replay_answers::say_fault(ALTERNATIVES);
             return false;
         }
     }
-    replay_answers::say(ALTERNATIVES, number);
+    replay_answers::say_refused(ALTERNATIVES, reason);
     true
 }

@@ -5,7 +5,7 @@ ghost use Rattle.replay_payloads.specs.Payloads.{Inside};
 use crate::calls::answer_best;
 use decoder::Decoder;
 use replay_answers::BEST;
-use replay_payloads::{NO_LIMIT, asked, least};
+use replay_payloads::{NO_LIMIT, asked};
 use script::Record;
 
 // The payload is whether finals are used, and perhaps the lengths of the output.
@@ -27,12 +27,12 @@ pub fn best(
         return;
     }
     let use_final = script::word_at(bytes, r.start) == 1;
-    let n = least(asked(bytes, r, 1, NO_LIMIT), 8192);
-    let f = least(asked(bytes, r, 2, NO_LIMIT), 8192);
-    let m = least(asked(bytes, r, 3, NO_LIMIT), 8192);
-    let mut words = replay_places::path_words();
-    let mut frames = replay_places::path_frames();
-    let mut segments = replay_places::path_segments();
+    let n = asked(bytes, r, 1, NO_LIMIT).min(8192);
+    let f = asked(bytes, r, 2, NO_LIMIT).min(8192);
+    let m = asked(bytes, r, 3, NO_LIMIT).min(8192);
+    let mut words: [i32; 8192] = script::places(0);
+    let mut frames: [u32; 8192] = script::places(0);
+    let mut segments: [u32; 24576] = script::places(0);
     answer_best(
         tokens,
         sums,

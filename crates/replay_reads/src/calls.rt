@@ -4,11 +4,10 @@ ghost use Rattle.replay_payloads.specs.Lent.{LengthsWithin};
 ghost use Rattle.replay_reads.specs.Reads.{PathsLeft, OutputHere, ListLeft};
 
 use decoder::Decoder;
-use reading_list::ReadingList;
-use readings::Listed;
+use refusals::Reason;
 use replay_answers::{ACTIVE, BEST, FRAMES, RELATIVE};
 use replay_payloads::Lengths;
-use script::Record;
+use script::{Record, Word};
 use traceback::BestPath;
 
 // The reads of one number, which have no payload.
@@ -22,7 +21,7 @@ pub fn say_number(r: Record, tokens: &[u32], sums: &[f32], finals: &[f32], d: De
     }
     if kind == RELATIVE {
         let cost = decoder_reads::final_relative_cost(tokens, sums, finals, d);
-        replay_answers::say_word(kind, script::bits_of(cost));
+        replay_answers::say_word(kind, cost.to_word());
         return;
     }
     if kind == ACTIVE {
@@ -56,11 +55,16 @@ pub fn answer_best(
     say_best(path, words, frames, segments);
 }
 
-fn say_best(path: BestPath, words: &[i32], frames: &[u32], segments: &[u32]) {
+fn say_best(
+    path: Result<Option<BestPath>, Reason>,
+    words: &[i32],
+    frames: &[u32],
+    segments: &[u32],
+) {
     match path {
-        BestPath::Refused(number) => replay_answers::say(BEST, number),
-        BestPath::Nobody => replay_answers::say_word(BEST, 0),
-        BestPath::Found(size, cost) => {
+        Err(reason) => replay_answers::say_refused(BEST, reason),
+        Ok(None) => replay_answers::say_word(BEST, 0),
+        Ok(Some(BestPath { size, cost })) => {
             replay_answers::say_best_path(cost, size.words, size.segments, words, frames, segments);
         }
     }
@@ -81,14 +85,14 @@ pub fn list_paths(
     segments: &mut [u32],
     list: &mut [u32],
     costs: &mut [f32],
-) -> Listed
+) -> Result<usize, Reason>
     requires { PathsLeft tokens.now sums.now records.now labels.now finals.now d }
 {
-    let mut keys = replay_places::key_places();
-    let mut places = replay_places::state_places();
-    let mut own = replay_places::state_places();
-    let mut history_keys = replay_places::history_key_places();
-    let mut history_skips = replay_places::list_places();
+    let mut keys: [u64; 8192] = script::places(0);
+    let mut places: [u32; 4096] = script::places(0);
+    let mut own: [u32; 4096] = script::places(0);
+    let mut history_keys: [u64; 16384] = script::places(0);
+    let mut history_skips: [u32; 16384] = script::places(0);
     let listed = decoder_reads::alternatives(
         tokens,
         sums,
@@ -109,7 +113,7 @@ pub fn list_paths(
         list,
         costs,
     );
-    if let Listed::Paths(k) = listed {
+    if let Ok(k) = listed {
         replay_answers::say_paths(k, words, frames, segments, list, costs);
     }
     listed
@@ -133,26 +137,26 @@ pub fn list_readings(
     segments: &mut [u32],
     numbers: &mut [u64],
     costs: &mut [f32],
-) -> ReadingList
+) -> Result<usize, Reason>
     requires list_left { ListLeft tokens.now sums.now records.now labels.now gaps.now finals.now d }
     requires lengths_within { LengthsWithin s × OutputHere words.old frames.old segments.old numbers.old costs.old }
 {
-    let mut keys = replay_places::key_places();
-    let mut places = replay_places::state_places();
-    let mut own = replay_places::state_places();
-    let mut heads = replay_places::state_places();
-    let mut lists = replay_places::list_places();
-    let mut route = replay_places::route_places();
-    let mut history_keys = replay_places::history_key_places();
-    let mut history_skips = replay_places::list_places();
-    let mut hashes = replay_places::entry_hash_places();
-    let mut nexts = replay_places::entry_next_places();
-    let mut gains = replay_places::entry_sum_places();
-    let mut kept_hashes = replay_places::kept_hash_places();
-    let mut kept_links = replay_places::kept_link_places();
-    let mut kept_sums = replay_places::kept_sum_places();
-    let mut numbering = replay_places::kept_order_places();
-    let mut list = replay_places::item_places();
+    let mut keys: [u64; 8192] = script::places(0);
+    let mut places: [u32; 4096] = script::places(0);
+    let mut own: [u32; 4096] = script::places(0);
+    let mut heads: [u32; 4096] = script::places(0);
+    let mut lists: [u32; 16384] = script::places(0);
+    let mut route: [u32; 8192] = script::places(0);
+    let mut history_keys: [u64; 16384] = script::places(0);
+    let mut history_skips: [u32; 16384] = script::places(0);
+    let mut hashes: [u64; 65536] = script::places(0);
+    let mut nexts: [u32; 196608] = script::places(0);
+    let mut gains: [f32; 131072] = script::places(0.0);
+    let mut kept_hashes: [u64; 8192] = script::places(0);
+    let mut kept_links: [u32; 32768] = script::places(0);
+    let mut kept_sums: [f32; 16384] = script::places(0.0);
+    let mut numbering: [u32; 8192] = script::places(0);
+    let mut list: [u32; 12288] = script::places(0);
     decoder_readings::reading_list(
         tokens,
         sums,

@@ -6,9 +6,9 @@ ghost use Rattle.replay_payloads.specs.Lent.{all_entries, all_output};
 
 use crate::calls::list_readings;
 use decoder::Decoder;
-use reading_list::ReadingList;
+use refusals::Reason;
 use replay_answers::READINGS;
-use replay_payloads::{Loan, NO_ENTRY, TOO_SHORT};
+use replay_payloads::Loan;
 use script::Record;
 
 // The payload is whether finals are used, how many readings are listed and how many are traced at most, and perhaps the lengths of the output.
@@ -33,11 +33,11 @@ pub fn readings(
         return true;
     }
     let traced = script::word_at(bytes, r.start + 2) as usize;
-    let mut words = replay_places::reading_words();
-    let mut frames = replay_places::list_frames();
-    let mut segments = replay_places::list_segments();
-    let mut numbers = replay_places::reading_numbers();
-    let mut costs = replay_places::reading_costs();
+    let mut words: [i32; 65536] = script::places(0);
+    let mut frames: [u32; 16384] = script::places(0);
+    let mut segments: [u32; 49152] = script::places(0);
+    let mut numbers: [u64; 20480] = script::places(0);
+    let mut costs: [f32; 16384] = script::places(0.0);
     let list = list_readings(
         tokens,
         sums,
@@ -57,31 +57,31 @@ pub fn readings(
         &mut costs,
     );
     match list {
-        ReadingList::Readings(k) => {
+        Ok(k) => {
             replay_answers::say_readings(k, traced, &words, &frames, &segments, &numbers, &costs);
             true
         }
-        ReadingList::Refused(number) => say_unread(bytes, r, loan, number),
+        Err(reason) => say_unread(bytes, r, loan, reason),
     }
 }
 
 // A refusal stands where what it is for is as long as the script asks for.
-fn say_unread(bytes: &[u8], r: Record, loan: Loan, number: u32) -> bool
+fn say_unread(bytes: &[u8], r: Record, loan: Loan, reason: Reason) -> bool
     requires { Inside bytes.now r }
     ensures { all_entries loan ≡ true → all_output bytes.now r ≡ true → result ≡ true }
 {
-    if number == NO_ENTRY {
+    if reason == Reason::ListsFull {
         if !replay_payloads::all_entries(loan) {
             replay_answers::say_fault(READINGS);
             return false;
         }
     }
-    if number == TOO_SHORT {
+    if reason == Reason::TooShort {
         if !replay_payloads::all_output(bytes, r) {
             replay_answers::say_fault(READINGS);
             return false;
         }
     }
-    replay_answers::say(READINGS, number);
+    replay_answers::say_refused(READINGS, reason);
     true
 }

@@ -1,14 +1,8 @@
 -- An answer of `get_delta_weights` has no more differences than the output that was lent has places. Assumes nothing.
-use mathlib.Core.Path.{◌≡◌, refl, ap}
-use Prim.Native.Nat.{ℕ, zero, suc, ◌-◌, ◌^◌, ◌≤◌, min}
-use native.Mathlib.Omega.{arith}
-use mathlib.Core.Bool.{Bool, true, false, ◌||◌, cond}
-use mathlib.Core.List.{List, []}
-use borrow.Author.Tests.{ltb-false}
-use lib.Dec.{leb, ltb}
-use lib.ListN.{length, length-map}
-use lib.Ieee.{Float}
-use Rattle.lists.specs.Lists.{range}
+use Rattle.std.specs.Prelude.{◌≡◌, refl, ℕ, ◌-◌, ◌^◌, ◌≤◌, min, Bool, true, false, ◌||◌, cond, List, [], leb, ltb, length, get_or, Float, Result, Ok, Err}
+use Rattle.std.specs.Float.{nan}
+use Rattle.std.proofs.Common.{arith, ap, ltb-false}
+use Rattle.lists.specs.Parts.{range_many}
 use Rattle.model.specs.Basics.{Outcome, ok, refused}
 use Rattle.model.specs.Silence.{SilenceWeighting as Weighting, Deltas, weighting_wrong, too_many, ceil_div, deltas_of, get_delta_weights}
 use Rattle.silence_weighting.specs.declared.SilenceWeighting.{SilenceWeighting}
@@ -16,6 +10,7 @@ use Rattle.silence_weighting.specs.declared.Weighed.{Weighed}
 use Rattle.silence_weighting.specs.State.{state_of, places}
 use Rattle.silence_weighting.specs.Answers.{brought, Memory, deltas_in, DeltasRight}
 use Rattle.replay_silence.specs.Shape.{CountWithin}
+use Rattle.refusals.specs.declared.Reason.{Reason}
 
 -- how many differences an outcome has
 abbrev delta_count : Outcome Deltas → ℕ
@@ -51,23 +46,15 @@ few_brought s store room o h = go (weighting_wrong s.weight s.subsampling) (too_
     go false true = omega arith
     go false false = h
 
-length_range : (a n : ℕ) → length (range a n) ≡ n
-length_range a zero = refl
-length_range a (suc n) = ap suc (length_range (suc a) n)
-
 as_many : (n : ℕ) (fs : List ℕ) (ds : List Float) → length (deltas_in n fs ds) ≡ n
 unfolding deltas_in
-as_many n fs ds = simp (length-map, length_range)
+as_many n fs ds = range_many (λ k. (get_or fs k 0, get_or ds k nan)) 0 n
 
-pub deltas_within : (s : SilenceWeighting) (ready from : ℕ) (m m' : Memory) (r : Weighed) (n : ℕ) → DeltasRight s ready from m r m' → length m.frames ≡ n → CountWithin n r
-deltas_within s ready from m m' (Weighed.Refused k) n right h = tt
-deltas_within s ready from m m' (Weighed.Deltas next count) n right h =
+pub deltas_within : (s : SilenceWeighting) (ready from : ℕ) (m m' : Memory) (r : Result Weighed Reason) (n : ℕ) → DeltasRight s ready from m r m' → length m.frames ≡ n → CountWithin n r
+deltas_within s ready from m m' (Err k) n right h = tt
+deltas_within s ready from m m' (Ok w) n right h =
     let store = places m.status m.weights in
     let room = min (length m.frames) (length m.deltas) in
     let st = state_of [] s m.status m.weights in
     let few = few_brought s store room (get_delta_weights store room ready from st) (few_given st store room ready from) in
-    omega (arith, as_many count m'.frames m'.deltas, ap delta_count (right.answer []), few, h)
-
-pub within_more : (a b : ℕ) (r : Weighed) → a ≤ b → CountWithin a r → CountWithin b r
-within_more a b (Weighed.Refused k) h l = tt
-within_more a b (Weighed.Deltas next count) h l = omega arith
+    omega (arith, as_many w.count m'.frames m'.deltas, ap delta_count (right.answer []), few, h)

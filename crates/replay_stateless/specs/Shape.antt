@@ -1,9 +1,7 @@
 -- What the functions of the program ask of one another. Assumes nothing.
-use Rattle.std.specs.Prelude.{◌≡◌, ℕ, ◌+◌}
-use Rattle.replay_stateless.specs.declared.searches.Lists.{Lists}
-use Rattle.replay_stateless.specs.declared.searches.Lists.TheVariants.{Lengths, Misshapen}
+use Rattle.std.specs.Prelude.{◌≡◌, ℕ, ◌+◌, Option, Some, None}
 
 -- with the three words beside them the lists fill the payload
-abbrev pub FillUp : ℕ → Lists → Type 0
-FillUp count (Lengths n m) = n + m + 3 ≡ count
-FillUp count Misshapen = Unit {0}
+abbrev pub FillUp : ℕ → Option (ℕ × ℕ) → Type 0
+FillUp count (Some n) = n.0 + n.1 + 3 ≡ count
+FillUp count None = Unit {0}

@@ -2,8 +2,8 @@
 ghost use Rattle.std.specs.Prelude.{◌+◌, ◌≤◌};
 ghost use Rattle.script.specs.Words.{word_count};
 
-use crate::{STDOUT_FILENO, say, say_fault};
 use courses::Course;
+use replay_answers::{say_fault, say_refused, say_words};
 use script::Record;
 
 // The kind.
@@ -24,17 +24,7 @@ pub(crate) fn answer(bytes: &[u8], r: Record)
     let courses = script::word_at(bytes, start + 1);
     let frames = script::word_at(bytes, start + 2);
     match courses::course_at(frame, courses, frames) {
-        Course::At { course, remainder } => say_course(course, remainder),
-        Course::Refused(number) => say(COURSE, 1, number),
+        Ok(Course { course, remainder }) => say_words(&[COURSE, 3, 0, course, remainder]),
+        Err(reason) => say_refused(COURSE, reason),
     }
-}
-
-fn say_course(course: u32, remainder: u32) {
-    let mut out = [0u8; 20];
-    script::put_word(&mut out, 0, COURSE);
-    script::put_word(&mut out, 1, 3);
-    script::put_word(&mut out, 2, 0);
-    script::put_word(&mut out, 3, course);
-    script::put_word(&mut out, 4, remainder);
-    io::write_all(STDOUT_FILENO, &out);
 }

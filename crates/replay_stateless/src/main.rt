@@ -11,42 +11,33 @@ ghost use Rattle.script.specs.Words.{word_count};
 
 use course_calls::COURSE;
 use line_calls::{LINE, READ_LINE};
-use script::{NextRecord, Record};
+use replay_answers::say_fault;
+use script::{CutShort, Record};
 use searches::SEARCH;
 use shuffles::{SHUFFLE, UNSHUFFLE};
 
 // Standard input.
 const STDIN_FILENO: i32 = 0;
-// Standard output.
-const STDOUT_FILENO: i32 = 1;
 
 // The whole script is read at once. One that fills the places may not have ended, and gets a fault for its only answer.
 fn main() {
     let mut input = [0u8; 262144];
     let n = io::read_full(STDIN_FILENO, &mut input);
-    if n < 262144 {
-        replay(&input[..n]);
-    } else {
-        say_fault(0);
+    if n < 262144 && replay(&input[..n]).is_ok() {
+        return;
     }
+    say_fault(0);
 }
 
 // Answers each record in turn, up to the end or to one that is cut short.
-fn replay(bytes: &[u8]) {
+#[tactic(auto, using(script::specs::Records::whole_within))]
+fn replay(bytes: &[u8]) -> Result<(), CutShort> {
     let mut at = 0;
-    loop {
-        match script::record_at(bytes, at) {
-            NextRecord::Whole(r) => {
-                at = r.start + r.count;
-                answer(bytes, r);
-            }
-            NextRecord::Short => {
-                say_fault(0);
-                return;
-            }
-            NextRecord::End => return,
-        }
+    while let Some(r) = script::record_at(bytes, at)? {
+        at = r.start + r.count;
+        answer(bytes, r);
     }
+    Ok(())
 }
 
 fn answer(bytes: &[u8], r: Record)
@@ -61,18 +52,4 @@ fn answer(bytes: &[u8], r: Record)
         READ_LINE => line_calls::read(bytes, r),
         _ => say_fault(kind),
     }
-}
-
-// The words of an answer up to the refusal's number.
-fn say(kind: u32, count: u32, number: u32) {
-    let mut out = [0u8; 12];
-    script::put_word(&mut out, 0, kind);
-    script::put_word(&mut out, 1, count);
-    script::put_word(&mut out, 2, number);
-    io::write_all(STDOUT_FILENO, &out);
-}
-
-fn say_fault(kind: u32) {
-    let out = script::fault(kind);
-    io::write_all(STDOUT_FILENO, &out);
 }

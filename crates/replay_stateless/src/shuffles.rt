@@ -2,9 +2,9 @@
 ghost use Rattle.std.specs.Prelude.{◌+◌, ◌≤◌, length};
 ghost use Rattle.script.specs.Words.{word_count};
 
-use crate::{STDOUT_FILENO, say, say_fault};
+use refusals::Reason;
+use replay_answers::{say_fault, say_refused, say_words};
 use script::Record;
-use shuffle::Shuffled;
 
 // The kinds.
 pub(crate) const SHUFFLE: u32 = 13;
@@ -52,15 +52,15 @@ fn respond(kind: u32, block: &[u8], output: &mut [u8])
     requires { length output.old ≤ 4096 }
 {
     match rearrange(kind, block, output) {
-        Shuffled::Done => {
-            say(kind, (1 + output.len() / 4) as u32, 0);
-            io::write_all(STDOUT_FILENO, output);
+        Ok(()) => {
+            say_words(&[kind, (1 + output.len() / 4) as u32, 0]);
+            replay_answers::say_bytes(output);
         }
-        Shuffled::Refused(number) => say(kind, 1, number),
+        Err(reason) => say_refused(kind, reason),
     }
 }
 
-fn rearrange(kind: u32, block: &[u8], output: &mut [u8]) -> Shuffled {
+fn rearrange(kind: u32, block: &[u8], output: &mut [u8]) -> Result<(), Reason> {
     if kind == SHUFFLE {
         return shuffle::shuffle(block, output);
     }

@@ -1,3 +1,2 @@
 -- Laws of this crate's proofs.
-pub mod Numbers
-pub mod Fill
+pub mod Stores

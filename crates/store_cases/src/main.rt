@@ -17,30 +17,15 @@ ghost use Rattle.store_cases.specs.Ready.{Ready, Lent, LinksOn, RecordsPut, Held
 use records::Kept;
 use tokens::Token;
 
-// A digit's value, 10 for what is none.
-fn digit(b: u8) -> u32
-    ensures { result ≤ 10 }
-{
-    if b < 48 {
-        return 10;
-    }
-    if 57 < b {
-        return 10;
-    }
-    (b - 48) as u32
-}
-
 // Where the next digit is, or the end.
 fn skip(text: &[u8], end: usize, from: usize) -> usize
     requires { (from ≤ end) × (end ≤ length text.now) }
     ensures { (from ≤ result) × (result ≤ end) }
 {
-    let mut i = from;
-    while i < end {
-        if digit(text[i]) < 10 {
+    for i in from..end {
+        if text[i].is_ascii_digit() {
             return i;
         }
-        i += 1;
     }
     end
 }
@@ -56,22 +41,19 @@ fn read_number(text: &[u8], end: usize, from: usize) -> Number
     requires { (from ≤ end) × (end ≤ length text.now) }
     ensures { (from ≤ result.next) × (result.next ≤ end) }
 {
-    let mut i = skip(text, end, from);
+    let start = skip(text, end, from);
     let mut value: u32 = 0;
-    while i < end {
-        let d = digit(text[i]);
-        if d == 10 {
-            break;
+    for i in start..end {
+        match char::from(text[i]).to_digit(10) {
+            None => return Number { value, next: i },
+            Some(digit) => {
+                if value < 1_000_000 {
+                    value = value * 10 + digit;
+                }
+            }
         }
-        if value < 1000000 {
-            value = value * 10 + d;
-        }
-        i += 1;
     }
-    Number {
-        value: value,
-        next: i,
-    }
+    Number { value, next: end }
 }
 
 #[derive(Clone, Copy)]
@@ -96,12 +78,6 @@ fn read_line(text: &[u8], end: usize, from: usize) -> Line
     }
 }
 
-fn least(a: u32, b: u32) -> u32
-    ensures { result ≤ b }
-{
-    if a < b { a } else { b }
-}
-
 // The number of records after `count` links, where there are places for them.
 fn link_on(
     records: &mut [u32],
@@ -119,14 +95,12 @@ fn link_on(
     }
     let mut last = prev;
     let mut n = used;
-    let mut i = 0;
-    while i < count {
+    for _ in 0..count {
         if n == cap {
             break;
         }
         n = records::put_link(records, labels, n, last, n, 7, n);
         last = n;
-        i += 1;
     }
     n
 }
@@ -176,14 +150,11 @@ fn put_on(
     requires { (used ≤ cap) × (cap ≤ 32768) × (Lent (store records.old labels.old gaps.old)) }
     ensures { RecordsPut (store records.old labels.old gaps.old) (store records.new labels.new gaps.new) used result cap }
 {
-    let op = l.op;
-    if op == b'l' {
-        return link_on(records, labels, used, cap, l.a, l.b);
+    match l.op {
+        b'l' => link_on(records, labels, used, cap, l.a, l.b),
+        b'j' => join_on(records, labels, gaps, used, cap, l.a, l.b),
+        _ => used,
     }
-    if op == b'j' {
-        return join_on(records, labels, gaps, used, cap, l.a, l.b);
-    }
-    used
 }
 
 // A store's records and places, and the tokens' places.
@@ -202,8 +173,8 @@ fn empty_store(tokens: &mut [u32], cap: u32, places: u32) -> Sizes
     tokens::clear(tokens, 1, 8);
     Sizes {
         used: 0,
-        cap: least(cap, 32768),
-        places: least(places, 16),
+        cap: cap.min(32768),
+        places: places.min(16),
     }
 }
 
@@ -242,14 +213,14 @@ fn tell_wide(n: u64) {
 }
 
 fn tell(n: u32) {
-    tell_wide(n as u64);
+    tell_wide(u64::from(n));
 }
 
 fn tell_token(tokens: &[u32], place: u32)
     requires { place * 4 + 4 ≤ length tokens.now }
 {
     if tokens::has_token(tokens, place) {
-        tell_wide(tokens[place as usize * 4] as u64 + 1);
+        tell_wide(u64::from(tokens[place as usize * 4]) + 1);
     } else {
         tell(0);
     }
@@ -258,16 +229,10 @@ fn tell_token(tokens: &[u32], place: u32)
 fn tell_tokens(tokens: &[u32], places: u32)
     requires { places * 4 ≤ length tokens.now }
 {
-    let mut p = 0;
-    while p < places {
+    for p in 0..places {
         tell_token(tokens, p);
-        p += 1;
     }
     io::write_all(1, b"\n");
-}
-
-fn bit(b: bool) -> u32 {
-    if b { 1 } else { 0 }
 }
 
 fn tell_record(records: &[u32], labels: &[i32], gaps: &[f32], r: u32)
@@ -278,23 +243,16 @@ fn tell_record(records: &[u32], labels: &[i32], gaps: &[f32], r: u32)
     tell(records::frame_of(records, r));
     tell(records::starts_of(records, r));
     tell(records::kept_of(records, r));
-    tell(bit(records::word_of(labels, r) == 7));
-    tell(bit(records::cost_of(gaps, r) >= 1.0));
+    tell(u32::from(records::word_of(labels, r) == 7));
+    tell(u32::from(records::cost_of(gaps, r) >= 1.0));
     io::write_all(1, b"\n");
 }
 
 fn tell_records(records: &[u32], labels: &[i32], gaps: &[f32], used: u32, from: u32, to: u32)
     requires { (used ≤ 32768) × (Lent (store records.now labels.now gaps.now)) }
 {
-    let mut r = from;
-    while r <= to {
-        if used < r {
-            return;
-        }
-        if 0 < r {
-            tell_record(records, labels, gaps, r);
-        }
-        r += 1;
+    for r in from.max(1)..=to.min(used) {
+        tell_record(records, labels, gaps, r);
     }
 }
 
@@ -302,12 +260,10 @@ fn tell_records(records: &[u32], labels: &[i32], gaps: &[f32], used: u32, from: 
 fn tell_line(records: &[u32], labels: &[i32], gaps: &[f32], tokens: &[u32], z: Sizes, l: Line)
     requires { (z.used ≤ 32768) × (z.places * 4 ≤ length tokens.now) × (Lent (store records.now labels.now gaps.now)) }
 {
-    let op = l.op;
-    if op == b't' {
-        tell_tokens(tokens, z.places);
-    }
-    if op == b'r' {
-        tell_records(records, labels, gaps, z.used, l.a, l.b);
+    match l.op {
+        b't' => tell_tokens(tokens, z.places),
+        b'r' => tell_records(records, labels, gaps, z.used, l.a, l.b),
+        _ => {}
     }
 }
 
@@ -322,19 +278,14 @@ fn make(
     requires { (Lent (store records.old labels.old gaps.old)) × (64 ≤ length tokens.old) × (Ready (store records.old labels.old gaps.old) tokens.old z.used z.cap z.places) }
     ensures { Ready (store records.new labels.new gaps.new) tokens.new result.used result.cap result.places }
 {
-    let used = z.used;
-    if used < x {
+    if z.used < x {
         return z;
     }
-    let m = compaction::make_room(records, labels, gaps, tokens, z.places, used, z.cap, x);
+    let m = compaction::make_room(records, labels, gaps, tokens, z.places, z.used, z.cap, x);
     tell(m.used);
     tell(m.x);
     io::write_all(1, b"\n");
-    Sizes {
-        used: m.used,
-        cap: z.cap,
-        places: z.places,
-    }
+    Sizes { used: m.used, ..z }
 }
 
 // A line that changes what the tokens hold.
@@ -342,22 +293,18 @@ fn token_line(tokens: &mut [u32], z: Sizes, l: Line) -> Sizes
     requires { (64 ≤ length tokens.old) × (z.used ≤ 32768) }
     ensures { (s : Store) → Ready s tokens.old z.used z.cap z.places → Ready s tokens.new result.used result.cap result.places }
 {
-    let op = l.op;
-    let used = z.used;
-    let r = l.b;
-    if op == b's' {
-        return empty_store(tokens, l.a, l.b);
-    }
-    if op == b'e' {
-        release(tokens, l.a);
-        return z;
-    }
-    if op == b'h' {
-        if r <= used {
-            hold(tokens, l.a, r);
+    match l.op {
+        b's' => empty_store(tokens, l.a, l.b),
+        b'e' => {
+            release(tokens, l.a);
+            z
         }
+        b'h' if l.b <= z.used => {
+            hold(tokens, l.a, l.b);
+            z
+        }
+        _ => z,
     }
-    z
 }
 
 fn step(
@@ -377,11 +324,7 @@ fn step(
     tell_line(records, labels, gaps, tokens, z, l);
     let y = token_line(tokens, z, l);
     let used = put_on(records, labels, gaps, y.used, y.cap, l);
-    Sizes {
-        used: used,
-        cap: y.cap,
-        places: y.places,
-    }
+    Sizes { used, ..y }
 }
 
 fn run(
@@ -403,31 +346,13 @@ fn run(
     }
 }
 
-// Places for 32,768 records. The `ensures` gives the length alone, which lending the array as a slice needs.
-fn record_places() -> [u32; 262144]
-    ensures { 262144 ≡ length result }
-{
-    [0; 262144]
-}
-
-fn label_places() -> [i32; 65536]
-    ensures { 65536 ≡ length result }
-{
-    [0; 65536]
-}
-
-fn gap_places() -> [f32; 65536]
-    ensures { 65536 ≡ length result }
-{
-    [0.0; 65536]
-}
-
 fn main() {
     let mut text = io::large_buffer();
     let end = io::read_full(0, &mut text);
-    let mut records = record_places();
-    let mut labels = label_places();
-    let mut gaps = gap_places();
+    // Places for 32,768 records.
+    let mut records = [0u32; 262144];
+    let mut labels = [0i32; 65536];
+    let mut gaps = [0.0f32; 65536];
     let mut tokens = [0u32; 64];
     run(
         &text,

@@ -1,12 +1,7 @@
--- `replay::before_graph` is safe, ends and stops at a record of the script.
-use Prim.Native.Nat.{◌-◌}
+-- `replay::before_graph` ends: each whole record takes at least its header's two words of those that are left.
+use Rattle.std.proofs.Common.{◌-◌}
 use Rattle.script.specs.Words.{word_count}
 use Rattle.replay.proofs.before_graph.Given as goal
 
-abbrev pub invariant-loop-r : goal.invariant-loop-r
-invariant-loop-r l =
-    Unit {0}
-
 abbrev pub decreases-loop-r : goal.decreases-loop-r
-decreases-loop-r l =
-    word_count l.calls - l.at
+decreases-loop-r l = word_count l.calls - l.at

@@ -2,11 +2,8 @@
 use mathlib.Core.Path.{refl}
 use Rattle.replay_calls.proofs.say_fitted.Goals as goal
 
-pub returns-in-Unfit : goal.returns-in-Unfit
-returns-in-Unfit c = rw c.in-Unfit.is refl
+pub returns-in-Err : goal.returns-in-Err
+returns-in-Err c = rw c.in-Err.is refl
 
-pub returns-in-Done : goal.returns-in-Done
-returns-in-Done c = rw (c.in-Done.is, c.say_done.ensures) refl
-
-pub returns-in-Refused : goal.returns-in-Refused
-returns-in-Refused c = rw c.in-Refused.is c.say_refused.ensures
+pub returns-in-Ok : goal.returns-in-Ok
+returns-in-Ok c = rw c.in-Ok.is c.say_called.ensures

@@ -1,7 +1,5 @@
--- `replay_silence::replay` is safe and ends: each whole record takes at least its header's two words of those that are left.
-use mathlib.Core.Path.{◌≡◌}
-use Prim.Native.Nat.{◌-◌}
-use lib.ListN.{length}
+-- `replay_silence::replay` ends: each whole record takes at least its header's two words of those that are left.
+use Rattle.std.proofs.Common.{◌≡◌, length, ◌-◌}
 use Rattle.script.specs.Words.{word_count}
 use Rattle.replay_silence.proofs.replay.Given as goal
 

@@ -1,6 +1,6 @@
--- `replay_silence::weigh` meets its contract: what is lent lies within the slices, and the differences within what is lent.
+-- `replay_silence::weigh` meets its contract: the differences lie within what is lent.
+use Rattle.std.proofs.Common.{length-take-le}
 use Rattle.replay_silence.proofs.Within.{deltas_within}
-use lib.Seq.{length-take-le}
 use Rattle.replay_silence.proofs.weigh.Goals as goal
 
 pub returns : goal.returns

@@ -1,6 +1,5 @@
 -- Between two lines the store is ready, and the slices are as long as they were.
 use mathlib.Core.Path.{refl, ◌∙◌}
-use Prim.Native.Nat.{◌-◌}
 use native.Mathlib.Omega.{arith}
 use Rattle.store_cases.proofs.run.Goals as goal
 

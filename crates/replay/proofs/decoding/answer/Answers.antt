@@ -19,5 +19,5 @@ returns-then-r-eq-FRAME c = c.frame.ensures _ _ c.requires.held
 pub returns-then-r-eq-KEEP : goal.returns-then-r-eq-KEEP
 returns-then-r-eq-KEEP c = c.keep.ensures _ _ _ _ _ _ c.requires.held
 
-pub read-goes-requires : goal.read-goes-requires
-read-goes-requires c = record { inside = c.requires.inside; reads_left = reads_next c.requires.held }
+pub read-requires-clause-reads_left : goal.read-requires-clause-reads_left
+read-requires-clause-reads_left c = reads_next c.requires.held

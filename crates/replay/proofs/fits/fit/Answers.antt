@@ -7,4 +7,4 @@ pub overflow_add-r : goal.overflow_add-r
 overflow_add-r c = record { fits = omega (arith, c.requires, c.well_formed.0.1) }
 
 pub on_decoder-requires : goal.on_decoder-requires
-on_decoder-requires c = fitted_next _ _ _ _ _ _ _ c.fit-fitted.result c.say_fitted.result _ c.fit-fitted.ensures c.say_fitted.ensures c.in-Next.is c.fit-fitted.auto.queue
+on_decoder-requires c = fitted_next _ _ _ _ _ _ _ c.fit-fitted.result c.say_fitted.result _ c.fit-fitted.ensures c.say_fitted.ensures c.in-Some.is c.fit-fitted.auto.queue

@@ -8,4 +8,4 @@ pub returns-then-first-eq0 : goal.returns-then-first-eq0
 returns-then-first-eq0 c = kept_left _ false 0f _ _ c.set_keep.ensures c.say_called.ensures
 
 pub returns-then-first-eq1 : goal.returns-then-first-eq1
-returns-then-first-eq1 c = kept_left _ true c.float_of-margin.result _ _ c.set_keep-then-first-eq1.ensures c.say_called-then-first-eq1.ensures
+returns-then-first-eq1 c = kept_left _ true c.from_word-margin.result _ _ c.set_keep-then-first-eq1.ensures c.say_called-then-first-eq1.ensures

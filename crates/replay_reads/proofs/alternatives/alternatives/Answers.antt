@@ -6,7 +6,7 @@ pub overflow_add-r : goal.overflow_add-r
 overflow_add-r c = record { fits = omega (arith, c.requires.inside, c.well_formed.0.1) }
 
 pub overflow_mul-segments : goal.overflow_mul-segments
-overflow_mul-segments c = record { fits = omega (arith, c.least-m.ensures.1) }
+overflow_mul-segments c = record { fits = omega (arith, c.min-m.ensures) }
 
 pub overflow_mul-list : goal.overflow_mul-list
-overflow_mul-list c = record { fits = omega (arith, c.least-e.ensures.1) }
+overflow_mul-list c = record { fits = omega (arith, c.min-e.ensures) }

@@ -14,4 +14,4 @@ pub overflow_mul-s-3 : goal.overflow_mul-s-3
 overflow_mul-s-3 c = record { fits = omega (arith, c.requires.lengths_within.0.entries) }
 
 pub reading_list-requires : goal.reading_list-requires
-reading_list-requires c = readings_lent _ _ _ _ _ _ _ _ _ _ (length (take c.args.s.kept c.kept_hash_places-kept_hashes.result)) _ _ c.key_places-keys.ensures c.state_places-places.ensures c.state_places-own.ensures c.state_places-heads.ensures c.item_places-list.ensures c.list_places-lists.ensures c.route_places-route.ensures c.history_key_places-history_keys.ensures c.list_places-history_skips.ensures c.kept_order_places-numbering.ensures c.kept_link_places-kept_links.ensures c.kept_sum_places-kept_sums.ensures c.requires.list_left
+reading_list-requires c = readings_lent _ _ _ _ _ _ _ _ _ _ (length (take c.args.s.kept c.places-kept_hashes.result)) _ _ c.places-keys.ensures c.places-places.ensures c.places-own.ensures c.places-heads.ensures c.places-list.ensures c.places-lists.ensures c.places-route.ensures c.places-history_keys.ensures c.places-history_skips.ensures c.places-numbering.ensures c.places-kept_links.ensures c.places-kept_sums.ensures c.requires.list_left

@@ -9,4 +9,4 @@ pub overflow_add-r-2 : goal.overflow_add-r-2
 overflow_add-r-2 c = record { fits = omega (arith, c.requires.inside, c.well_formed.0.1) }
 
 pub list_readings-list-requires : goal.list_readings-list-requires
-list_readings-list-requires c = record { list_left = c.requires.list_left; lengths_within = (c.lengths_of.ensures.within, record { words_are = c.reading_words-words.ensures; frames_are = c.list_frames-frames.ensures; segments_are = c.list_segments-segments.ensures; numbers_are = c.reading_numbers-numbers.ensures; costs_are = c.reading_costs-costs.ensures }) }
+list_readings-list-requires c = record { list_left = c.requires.list_left; lengths_within = (c.lengths_of.ensures.within, record { words_are = c.places-words.ensures; frames_are = c.places-frames.ensures; segments_are = c.places-segments.ensures; numbers_are = c.places-numbers.ensures; costs_are = c.places-costs.ensures }) }
