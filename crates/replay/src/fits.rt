@@ -10,22 +10,10 @@ use refusals::{Reason, Refusal};
 use replay_answers::FIT;
 use replay_graph::Tried;
 use replay_payloads::{Loan, MOST_RECORDS};
+use replay_places::Graph;
 use script::{CutShort, Record};
 
-pub fn try_fit(
-    calls: &[u8],
-    r: Record,
-    offsets: &[u32],
-    ilabels: &[i32],
-    olabels: &[i32],
-    weights: &[f32],
-    nextstates: &[u32],
-    finals: &[f32],
-    tid2pdf: &[i32],
-    tid2phone: &[i32],
-    start: u32,
-    pdfs: u32,
-) -> Tried
+pub fn try_fit(calls: &[u8], r: Record, graph: Graph<'_>) -> Tried
     requires { Inside calls.now r }
 {
     if r.count < 4 {
@@ -41,27 +29,11 @@ pub fn try_fit(
         replay_answers::say_refused(FIT, Reason::BadSetting);
         return Tried::Left;
     }
-    fit_apart(
-        calls, r, offsets, ilabels, olabels, weights, nextstates, finals, tid2pdf, tid2phone,
-        start, pdfs,
-    )
+    fit_apart(calls, r, graph)
 }
 
 // The fit is tried in stores of its own, since one that is refused changes nothing. One that is accepted is answered where it is made.
-fn fit_apart(
-    calls: &[u8],
-    r: Record,
-    offsets: &[u32],
-    ilabels: &[i32],
-    olabels: &[i32],
-    weights: &[f32],
-    nextstates: &[u32],
-    finals: &[f32],
-    tid2pdf: &[i32],
-    tid2phone: &[i32],
-    start: u32,
-    pdfs: u32,
-) -> Tried
+fn fit_apart(calls: &[u8], r: Record, graph: Graph<'_>) -> Tried
     requires { Inside calls.now r }
 {
     let mut tokens: [u32; 32768] = script::places(0);
@@ -85,16 +57,7 @@ fn fit_apart(
         &mut queue[..q],
         &scratch[..p],
         &mut eps[..p],
-        offsets,
-        ilabels,
-        olabels,
-        weights,
-        nextstates,
-        finals,
-        tid2pdf,
-        tid2phone,
-        start,
-        pdfs,
+        graph,
         replay_payloads::config_of(calls, r.start),
     ))
 }
@@ -110,20 +73,7 @@ fn say_unfit(fitted: Result<Called, Refusal>) -> Tried {
 }
 
 // The calls on a new decoder.
-pub fn with_stores(
-    calls: &[u8],
-    r: Record,
-    offsets: &[u32],
-    ilabels: &[i32],
-    olabels: &[i32],
-    weights: &[f32],
-    nextstates: &[u32],
-    finals: &[f32],
-    tid2pdf: &[i32],
-    tid2phone: &[i32],
-    start: u32,
-    pdfs: u32,
-) -> Result<Stop, CutShort>
+pub fn with_stores(calls: &[u8], r: Record, graph: Graph<'_>) -> Result<Stop, CutShort>
     requires { Inside calls.now r }
     ensures { IfOk result (Behind calls.now (r.start + r.count)) }
 {
@@ -151,16 +101,7 @@ pub fn with_stores(
         &mut queue[..q],
         &mut scratch[..p],
         &mut eps[..p],
-        offsets,
-        ilabels,
-        olabels,
-        weights,
-        nextstates,
-        finals,
-        tid2pdf,
-        tid2phone,
-        start,
-        pdfs,
+        graph,
     )
 }
 
@@ -176,16 +117,7 @@ fn fit(
     queue: &mut [u32],
     scratch: &mut [f32],
     eps: &mut [u8],
-    offsets: &[u32],
-    ilabels: &[i32],
-    olabels: &[i32],
-    weights: &[f32],
-    nextstates: &[u32],
-    finals: &[f32],
-    tid2pdf: &[i32],
-    tid2phone: &[i32],
-    start: u32,
-    pdfs: u32,
+    graph: Graph<'_>,
 ) -> Result<Stop, CutShort>
     requires { Inside calls.now r }
     ensures { IfOk result (Behind calls.now (r.start + r.count)) }
@@ -199,16 +131,7 @@ fn fit(
         queue,
         scratch,
         eps,
-        offsets,
-        ilabels,
-        olabels,
-        weights,
-        nextstates,
-        finals,
-        tid2pdf,
-        tid2phone,
-        start,
-        pdfs,
+        graph,
         replay_payloads::config_of(calls, r.start),
     );
     match replay_calls::say_fitted(loan, fitted) {
@@ -224,16 +147,7 @@ fn fit(
             queue,
             scratch,
             eps,
-            offsets,
-            ilabels,
-            olabels,
-            weights,
-            nextstates,
-            finals,
-            tid2pdf,
-            tid2phone,
-            start,
-            pdfs,
+            graph,
             d,
         ),
         None => Ok(Stop::End),

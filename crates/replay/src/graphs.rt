@@ -7,6 +7,7 @@ use crate::Stop;
 use crate::fits::{try_fit, with_stores};
 use replay_answers::{FIT, GRAPH};
 use replay_graph::{Tried, slice_of};
+use replay_places::Graph;
 use script::{CutShort, Record};
 
 // The calls on an accepted graph.
@@ -24,78 +25,42 @@ pub fn with_graph(calls: &[u8], r: Record) -> Result<Stop, CutShort>
     let nextstates: [u32; 16384] = slice_of(calls, g.nextstates, 0);
     let tid2pdf: [i32; 4096] = slice_of(calls, g.tid2pdf, 0);
     let tid2phone: [i32; 4096] = slice_of(calls, g.tid2phone, 0);
-    on_graph(
-        calls,
-        end,
-        &offsets[..replay_graph::count_of(calls, g.offsets, 4097)],
-        &ilabels[..replay_graph::count_of(calls, g.ilabels, 16384)],
-        &olabels[..replay_graph::count_of(calls, g.olabels, 16384)],
-        &weights[..replay_graph::count_of(calls, g.weights, 16384)],
-        &nextstates[..replay_graph::count_of(calls, g.nextstates, 16384)],
-        &finals[..replay_graph::count_of(calls, g.finals, 4096)],
-        &tid2pdf[..replay_graph::count_of(calls, g.tid2pdf, 4096)],
-        &tid2phone[..replay_graph::count_of(calls, g.tid2phone, 4096)],
-        g.start,
-        g.pdfs,
-    )
+    let graph = Graph {
+        offsets: &offsets[..replay_graph::count_of(calls, g.offsets, 4097)],
+        ilabels: &ilabels[..replay_graph::count_of(calls, g.ilabels, 16384)],
+        olabels: &olabels[..replay_graph::count_of(calls, g.olabels, 16384)],
+        weights: &weights[..replay_graph::count_of(calls, g.weights, 16384)],
+        nextstates: &nextstates[..replay_graph::count_of(calls, g.nextstates, 16384)],
+        finals: &finals[..replay_graph::count_of(calls, g.finals, 4096)],
+        tid2pdf: &tid2pdf[..replay_graph::count_of(calls, g.tid2pdf, 4096)],
+        tid2phone: &tid2phone[..replay_graph::count_of(calls, g.tid2phone, 4096)],
+        start: g.start,
+        pdfs: g.pdfs,
+    };
+    on_graph(calls, end, graph)
 }
 
 // The calls before the first fit, then those on each decoder, up to the next graph.
 #[tactic(auto, using(crate::specs::Places::behind_from, crate::specs::Places::fewer_ahead))]
-fn on_graph(
-    calls: &[u8],
-    from: usize,
-    offsets: &[u32],
-    ilabels: &[i32],
-    olabels: &[i32],
-    weights: &[f32],
-    nextstates: &[u32],
-    finals: &[f32],
-    tid2pdf: &[i32],
-    tid2phone: &[i32],
-    start: u32,
-    pdfs: u32,
-) -> Result<Stop, CutShort>
+fn on_graph(calls: &[u8], from: usize, graph: Graph<'_>) -> Result<Stop, CutShort>
     ensures { IfOk result (Behind calls.now from) }
 {
-    let mut stop = before_fit(
-        calls, from, offsets, ilabels, olabels, weights, nextstates, finals, tid2pdf, tid2phone,
-        start, pdfs,
-    )?;
+    let mut stop = before_fit(calls, from, graph)?;
     while let Stop::NewFit(r) = stop {
-        stop = with_stores(
-            calls, r, offsets, ilabels, olabels, weights, nextstates, finals, tid2pdf, tid2phone,
-            start, pdfs,
-        )?;
+        stop = with_stores(calls, r, graph)?;
     }
     Ok(stop)
 }
 
 // Answers each call up to the first fit that makes a decoder, or the next graph.
 #[tactic(auto, using(script::specs::Records::whole_within, crate::specs::Places::stops_behind))]
-fn before_fit(
-    calls: &[u8],
-    from: usize,
-    offsets: &[u32],
-    ilabels: &[i32],
-    olabels: &[i32],
-    weights: &[f32],
-    nextstates: &[u32],
-    finals: &[f32],
-    tid2pdf: &[i32],
-    tid2phone: &[i32],
-    start: u32,
-    pdfs: u32,
-) -> Result<Stop, CutShort>
+fn before_fit(calls: &[u8], from: usize, graph: Graph<'_>) -> Result<Stop, CutShort>
     ensures { IfOk result (Behind calls.now from) }
 {
     let mut at = from;
     while let Some(r) = script::record_at(calls, at)? {
         at = r.start + r.count;
-        match try_new(
-            calls, r, offsets, ilabels, olabels, weights, nextstates, finals, tid2pdf, tid2phone,
-            start, pdfs,
-        ) {
+        match try_new(calls, r, graph) {
             Turn::Stopped(stop) => return Ok(stop),
             Turn::Left => (),
             Turn::Other => replay_answers::say_fault(r.kind),
@@ -125,20 +90,7 @@ fn turn_of(tried: Tried, next: Stop) -> Turn
 }
 
 // A graph or a fit is tried.
-pub fn try_new(
-    calls: &[u8],
-    r: Record,
-    offsets: &[u32],
-    ilabels: &[i32],
-    olabels: &[i32],
-    weights: &[f32],
-    nextstates: &[u32],
-    finals: &[f32],
-    tid2pdf: &[i32],
-    tid2phone: &[i32],
-    start: u32,
-    pdfs: u32,
-) -> Turn
+pub fn try_new(calls: &[u8], r: Record, graph: Graph<'_>) -> Turn
     requires { Inside calls.now r }
     ensures { TurnAt r result }
 {
@@ -146,10 +98,7 @@ pub fn try_new(
         return turn_of(replay_graph::try_graph(calls, r), Stop::NewGraph(r));
     }
     if r.kind == FIT {
-        let tried = try_fit(
-            calls, r, offsets, ilabels, olabels, weights, nextstates, finals, tid2pdf, tid2phone,
-            start, pdfs,
-        );
+        let tried = try_fit(calls, r, graph);
         return turn_of(tried, Stop::NewFit(r));
     }
     Turn::Other

@@ -1,9 +1,9 @@
 // The decoder's calls that change it, each with what it works in.
 ghost use Rattle.std.specs.Prelude.{◌≡◌, length};
 ghost use Rattle.stores.specs.Rep.{lent};
-ghost use Rattle.nonemitting.specs.Expand.{graph_tables};
 ghost use Rattle.decoder.specs.Represents.{Left};
 ghost use Rattle.decoder.specs.Promises.{FrameLeft};
+ghost use Rattle.replay_places.specs.Graphs.{tables_of};
 ghost use Rattle.replay_places.specs.Held.{HeldFitted};
 ghost use Rattle.replay_payloads.specs.Payloads.{Inside};
 ghost use Rattle.replay_calls.specs.Held.{GoesOn, GoesOnAll};
@@ -14,6 +14,7 @@ use decoder::{Called, Decoder};
 use refusals::Refusal;
 use replay_answers::{FRAME, KEEP, START};
 use replay_payloads::Loan;
+use replay_places::Graph;
 use script::{Record, Word};
 
 // A fit with the scratch of the reads, which has to be long enough for them.
@@ -26,19 +27,10 @@ pub fn fit(
     queue: &mut [u32],
     scratch: &[f32],
     eps: &mut [u8],
-    offsets: &[u32],
-    ilabels: &[i32],
-    olabels: &[i32],
-    weights: &[f32],
-    nextstates: &[u32],
-    finals: &[f32],
-    tid2pdf: &[i32],
-    tid2phone: &[i32],
-    start: u32,
-    pdfs: u32,
+    graph: Graph<'_>,
     config: Config,
 ) -> Result<Called, Refusal>
-    ensures { HeldFitted (graph_tables offsets.now ilabels.now olabels.now weights.now nextstates.now tid2pdf.now tid2phone.now) (lent tokens.new sums.new records.new labels.new gaps.new) finals.now eps.new (length queue.old) (length scratch.now) result }
+    ensures { HeldFitted (tables_of graph.entry) (lent tokens.new sums.new records.new labels.new gaps.new) graph.entry.finals.now eps.new (length queue.old) (length scratch.now) result }
 {
     let keys: [u64; 8192] = script::places(0);
     let history_keys: [u64; 16384] = script::places(0);
@@ -66,16 +58,16 @@ pub fn fit(
         &[],
         &[],
         eps,
-        offsets,
-        ilabels,
-        olabels,
-        weights,
-        nextstates,
-        finals,
-        tid2pdf,
-        tid2phone,
-        start,
-        pdfs,
+        graph.offsets,
+        graph.ilabels,
+        graph.olabels,
+        graph.weights,
+        graph.nextstates,
+        graph.finals,
+        graph.tid2pdf,
+        graph.tid2phone,
+        graph.start,
+        graph.pdfs,
         config,
     )
 }
@@ -90,25 +82,32 @@ pub fn start_again(
     gaps: &mut [f32],
     queue: &mut [u32],
     eps: &[u8],
-    offsets: &[u32],
-    ilabels: &[i32],
-    olabels: &[i32],
-    weights: &[f32],
-    nextstates: &[u32],
-    tid2pdf: &[i32],
-    tid2phone: &[i32],
+    graph: Graph<'_>,
     d: Decoder,
 ) -> Option<Decoder>
-    requires { Left (graph_tables offsets.now ilabels.now olabels.now weights.now nextstates.now tid2pdf.now tid2phone.now) (lent tokens.old sums.old records.old labels.old gaps.old) eps.now (length queue.old) d }
-    ensures { GoesOn (graph_tables offsets.now ilabels.now olabels.now weights.now nextstates.now tid2pdf.now tid2phone.now) (lent tokens.old sums.old records.old labels.old gaps.old) (lent tokens.new sums.new records.new labels.new gaps.new) eps.now (length queue.old) d result }
+    requires { Left (tables_of graph) (lent tokens.old sums.old records.old labels.old gaps.old) eps.now (length queue.old) d }
+    ensures { GoesOn (tables_of graph.entry) (lent tokens.old sums.old records.old labels.old gaps.old) (lent tokens.new sums.new records.new labels.new gaps.new) eps.now (length queue.old) d result }
 {
     if r.count != 0 {
         replay_answers::say_fault(START);
         return Some(d);
     }
     let called = decoder::start(
-        tokens, sums, records, labels, gaps, queue, eps, offsets, ilabels, olabels, weights,
-        nextstates, tid2pdf, tid2phone, d,
+        tokens,
+        sums,
+        records,
+        labels,
+        gaps,
+        queue,
+        eps,
+        graph.offsets,
+        graph.ilabels,
+        graph.olabels,
+        graph.weights,
+        graph.nextstates,
+        graph.tid2pdf,
+        graph.tid2phone,
+        d,
     );
     say_called(START, loan, called)
 }
@@ -126,17 +125,11 @@ pub fn frame(
     queue: &mut [u32],
     scratch: &mut [f32],
     eps: &[u8],
-    offsets: &[u32],
-    ilabels: &[i32],
-    olabels: &[i32],
-    weights: &[f32],
-    nextstates: &[u32],
-    tid2pdf: &[i32],
-    tid2phone: &[i32],
+    graph: Graph<'_>,
     d: Decoder,
 ) -> Option<Decoder>
-    requires { FrameLeft (graph_tables offsets.now ilabels.now olabels.now weights.now nextstates.now tid2pdf.now tid2phone.now) (lent tokens.old sums.old records.old labels.old gaps.old) eps.now (length queue.old) (length scratch.old) d }
-    ensures { GoesOn (graph_tables offsets.now ilabels.now olabels.now weights.now nextstates.now tid2pdf.now tid2phone.now) (lent tokens.old sums.old records.old labels.old gaps.old) (lent tokens.new sums.new records.new labels.new gaps.new) eps.now (length queue.old) d result }
+    requires { FrameLeft (tables_of graph) (lent tokens.old sums.old records.old labels.old gaps.old) eps.now (length queue.old) (length scratch.old) d }
+    ensures { GoesOn (tables_of graph.entry) (lent tokens.old sums.old records.old labels.old gaps.old) (lent tokens.new sums.new records.new labels.new gaps.new) eps.now (length queue.old) d result }
 {
     if !script::can_fill(bytes, r.start, r.count, 4096) {
         replay_answers::say_fault(FRAME);
@@ -152,13 +145,13 @@ pub fn frame(
         queue,
         scratch,
         eps,
-        offsets,
-        ilabels,
-        olabels,
-        weights,
-        nextstates,
-        tid2pdf,
-        tid2phone,
+        graph.offsets,
+        graph.ilabels,
+        graph.olabels,
+        graph.weights,
+        graph.nextstates,
+        graph.tid2pdf,
+        graph.tid2phone,
         &loglikes[..r.count],
         d,
     );

@@ -1,2 +1,3 @@
 -- What the program holds between the decoder's calls.
 pub mod Held
+pub mod Graphs
