@@ -52,11 +52,19 @@ fn number_at(numbers: &[u64], at: usize) -> u32 {
 
 // ---- answers of a few words
 
-// Writes the words of an answer, or of a part of one.
+// Writes the words of an answer, or of a part of one, sixteen at a time: an answer of a few words is one write.
 pub fn say_words(words: &[u32]) {
+    let mut out = [0u8; 64];
+    let mut n = 0;
     for &w in words {
-        io::write_all(STDOUT_FILENO, &w.to_le_bytes());
+        script::put_word(&mut out, n, w);
+        n += 1;
+        if n == 16 {
+            say_bytes(&out);
+            n = 0;
+        }
     }
+    say_bytes(&out[..4 * n]);
 }
 
 // Writes bytes that are words of an answer.
@@ -76,7 +84,7 @@ pub fn say_refused(kind: u32, reason: Reason) {
 
 // The answer that the script is at fault.
 pub fn say_fault(kind: u32) {
-    say(kind, script::FAULT);
+    say_bytes(&script::fault(kind));
 }
 
 // An answer of one word.

@@ -6,7 +6,7 @@ ghost use Rattle.script.specs.Words.{word_count};
 ghost use Rattle.replay_silence.specs.Shape.{CountWithin, FillUp};
 
 use refusals::Reason;
-use replay_answers::{say, say_bytes, say_fault, say_refused, say_word, say_words};
+use replay_answers::{say, say_bytes, say_fault, say_refused, say_word};
 use script::{CutShort, Record, Word, places};
 use silence_weighting::{SilenceWeighting, Weighed};
 
@@ -361,10 +361,7 @@ fn count_trailing(bytes: &[u8], start: usize, m: usize, n: usize) -> Result<(), 
         &ends[..n],
     ) {
         Err(reason) => say_refused(TRAILING, reason),
-        Ok(frames) => {
-            say_words(&[TRAILING, 3, 0]);
-            say_bytes(&frames.to_le_bytes());
-        }
+        Ok(frames) => say_long(TRAILING, frames),
     }
     Ok(())
 }
@@ -408,14 +405,36 @@ fn does_not_fit(kind: u32) -> Stop {
     Stop::DoesNotFit
 }
 
-// The differences, each with its frame.
+// An answer of one 64-bit number.
+fn say_long(kind: u32, x: u64) {
+    let mut out = [0u8; 20];
+    script::put_word(&mut out, 0, kind);
+    script::put_word(&mut out, 1, 3);
+    script::put_word(&mut out, 2, 0);
+    script::put_long(&mut out, 3, x);
+    say_bytes(&out);
+}
+
+// The differences, each with its frame, all in one write.
 fn say_deltas(frames: &[u64], differences: &[f32], count: usize)
     requires { (count ≤ 16384) × (count ≤ length frames.now) × (count ≤ length differences.now) }
 {
+    let mut out = [0u8; 196624];
     let n = count as u32;
-    say_words(&[DELTAS, 2 + 3 * n, 0, n]);
+    script::put_word(&mut out, 0, DELTAS);
+    script::put_word(&mut out, 1, 2 + 3 * n);
+    script::put_word(&mut out, 2, 0);
+    script::put_word(&mut out, 3, n);
+    put_deltas(&mut out, frames, differences, count);
+    say_bytes(&out[..16 + 12 * count]);
+}
+
+// Puts each difference behind the first four words.
+fn put_deltas(out: &mut [u8], frames: &[u64], differences: &[f32], count: usize)
+    requires { (count ≤ 16384) × (count ≤ length frames.now) × (count ≤ length differences.now) }
+{
     for i in 0..count {
-        say_bytes(&frames[i].to_le_bytes());
-        say_words(&[differences[i].to_word()]);
+        script::put_long(out, 4 + 3 * i, frames[i]);
+        script::put_word(out, 6 + 3 * i, differences[i].to_word());
     }
 }
