@@ -15,7 +15,7 @@ use Rattle.arrivals.specs.declared.Setting.{Setting}
 use Rattle.arrivals.specs.declared.Going.{Going}
 use Rattle.arrivals.specs.declared.Arrived.{Arrived}
 use Rattle.arrivals.specs.declared.Arrived.TheVariants.{Cut, Stays, Wins, Joins}
-use Rattle.arrivals.specs.Stood.{Stood, ArrivedBy, arrived_cut, arrived_stays, arrived_wins, arrived_joins}
+use Rattle.arrivals.specs.Stood.{Stood, ArrivedBy, arrived_refused, arrived_cut, arrived_stays, arrived_wins, arrived_joins}
 use Rattle.arcs.specs.declared.Pass.{Pass}
 use Rattle.arcs.specs.declared.Pass.TheVariants.{Emitting, Nonemitting}
 use Rattle.arcs.specs.declared.Work.{Work}
@@ -24,6 +24,7 @@ use Rattle.arcs.specs.Queue.{Queued, queued-length, queued_put}
 use Rattle.arcs.specs.Passed.{Ground, At, PassedBy, passed_refused, passed_on, moved_by, queued_on, PushIs, push_full, push_on}
 use Rattle.refusals.specs.declared.Reason.{Reason}
 use Rattle.refusals.specs.declared.Reason.TheVariants.{QueueFull}
+use Rattle.refusals.specs.Numbers.{number_of}
 
 -- ---- what the parts of it leave, as the code has it
 
@@ -168,6 +169,9 @@ module _ {g : Setting} {H : Here} {done : Table} {eps : List ℕ} {places : ℕ}
 
   abbrev Came : Outcome Change → Arrived → Type 0
   Came o came = ArrivedBy g m₀ (lent tk sm rs rl gs) H (pass_of pass ls) t arc w done o (Ok came)
+
+  refused_so : (o : Outcome Change) (n : Reason) → ArrivedBy g m₀ (lent tk sm rs rl gs) H (pass_of pass ls) t arc w done o (Err n) → tk' ≡ tk → Ends o (Err n)
+  refused_so o n (arrived_refused k z) e = same_tokens (refused (number_of n)) (Err n) e (passed_refused n z)
 
   cut_so : (o : Outcome Change) → Came o Cut → tk' ≡ tk → qs' ≡ qs → Ends o (Ok x)
   unfolding finish

@@ -30,7 +30,7 @@ use Rattle.arcs.specs.declared.Work.{Work}
 use Rattle.arcs.specs.Part.{pass_of, heard_at}
 use Rattle.arcs.specs.Passed.{Ground, going_of}
 use Rattle.arcs.specs.State.{Tables, tables, TablesOf, slice, part_of, rises, inside, two_offsets, arcs_are, part_of_lem}
-use Rattle.emitting.specs.Look.{outcome_of, LookAsks, look_from, looks}
+use Rattle.emitting.specs.Look.{outcome_of, LookAsks, look_from, looks, Only12, only_12}
 use Rattle.arcs.specs.Ended.{EndedBy, ended_refused}
 use Rattle.emitting.specs.Emit.{EmitGiven, EmitStatesIs}
 use Rattle.refusals.specs.declared.Reason.{Reason}
@@ -171,6 +171,10 @@ module _ {g : Setting} {m : Lent} {qs eps : List ℕ} {T : Tables} {used seq : �
         go : (o : Option (ℕ × Token)) → BestIs g.states o cut.best cut.least → offset_in g.states cut ≡ offset_of o
         go none b = ap (λ (z : Bool). elim z as (λ z. Float) [ true ↦ 0f | false ↦ neg cut.least ]) (le-leb g.states cut.best (let e = b.0 in omega arith))
         go (some b) i = ap (λ (z : Bool). elim z as (λ z. Float) [ true ↦ 0f | false ↦ neg cut.least ]) (lt-leb g.states cut.best i.0) ∙ ap neg i.2
+
+    look_12 : (o : Option (ℕ × Token)) → Only12 (look G.H.graph T.arcs.loglikes cut.adaptive o)
+    look_12 none = tt
+    look_12 (some b) = only_12 G.H.graph T.arcs.loglikes (neg b.1.cost) cut.adaptive b.1.cost (arcs_of G.H.graph b.0) ∞
 
     module _ (off : Float) (off-is : off ≡ offset_in g.states cut) where
       abbrev P : Pass

@@ -10,6 +10,9 @@ use Rattle.merged.specs.Drops.{KeptJudged, kept_stays, kept_goes, OwnJudged, own
 abbrev pub Cleared : (gone : List ℕ) → (m : ℕ) → Type 0
 Cleared gone m = (p : ℕ) → p < m → get_or gone p 0 ≡ 0
 
+pub cleared_next : (gone : List ℕ) (p : ℕ) → p < length gone → Cleared gone p → Cleared (set gone p 0) (p + 1)
+cleared_next gone p l C q u = case (eq_or_not q p) (λ e. ap (λ (k : ℕ). get_or (set gone p 0) k 0) e ∙ get_or-set_same gone p 0 0 l) (λ d. get_or-set_other gone p q 0 0 d ∙ C q (omega arith))
+
 pub cleared_all : (gone gone' : List ℕ) (m : ℕ) → gone' ≡ replicate m 0 ++ drop m gone → Cleared gone' m
 cleared_all gone gone' m e p l =
     ap (λ (x : List ℕ). get_or x p 0) e ∙ get_or_append_left (replicate m 0) (drop m gone) 0 p (let z = length-replicate {A = ℕ} m 0 in omega arith) ∙ get_or-replicate m p 0 0 l

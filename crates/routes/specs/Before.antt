@@ -64,6 +64,16 @@ whole_before xs ys m n e f =
 
 -- ---- as the code goes
 
+module _ (x y : ℤ) (behind : Bool) where
+  pub before_less : ltℤ x y ≡ true → true ≡ (ltℤ x y || (eqℤ x y && behind))
+  before_less e = rw e
+
+  pub before_level : ltℤ x y ≡ false → x ≡ y → behind ≡ (ltℤ x y || (eqℤ x y && behind))
+  before_level e q = rw (e, ap (eqℤ x) (sym q) ∙ eqℤ_refl x)
+
+  pub before_not : ltℤ x y ≡ false → (x ≡ y → ⊥) → false ≡ (ltℤ x y || (eqℤ x y && behind))
+  before_not e d = rw (e, eqℤ_no x y d)
+
 module _ {rs : List ℕ} {ls : List ℤ} {ra rb : List ℕ} {p q : ℕ} where
   -- what the two walks ask
   pub skipped_alike : {a b m n : ℕ} → m ≡ length (back_along rs ls ra a) → n ≡ length (back_along rs ls rb b) → Skipped rs ls ra a (m - n) p → Skipped rs ls rb b (n - m) q → length (back_along rs ls ra p) ≡ length (back_along rs ls rb q)
