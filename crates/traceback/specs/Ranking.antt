@@ -1,5 +1,5 @@
 -- The candidates, and the first of the sorted list with one more state in front. Assumes nothing.
-use Rattle.std.specs.Prelude.{◌≡◌, refl, ℕ, suc, ◌≤◌, ◌<◌, Bool, cond, ltb, length, get_or, Float, Option as RustOption, Some, None}
+use Rattle.std.specs.Prelude.{◌≡◌, refl, ℕ, suc, ◌≤◌, ◌<◌, Bool, ◌&&◌, ◌||◌, cond, ltb, length, get_or, Float, Option as RustOption, Some, None}
 use Rattle.std.proofs.Common.{sym, ◌∙◌, ap, ap₂, arith, drop-cons}
 use Rattle.std.proofs.Math.Path.{subst}
 use Rattle.std.proofs.Math.Bool.{true, false}
@@ -35,6 +35,20 @@ module _ (s : ℕ) (t : Stored) (w : Float) (counts : Bool) where
       → Some (record { state = s; link = t.link; seq = t.seq; rank = rank; cost = t.cost ⊕ w }) ≡ candidate_of s t w counts
   unfolding candidate_of
   candidate_some rank e q = rw (e, q)
+
+pub sooner_tie : (a b c : Bool) → a ≡ false → b ≡ true → c ≡ (a || (b && c))
+sooner_tie a b c e q = rw (e, q)
+
+module _ (a b : RustOption Candidate) (x : Candidate) (e : a ≡ Some x) where
+  pub soonest_alone : b ≡ None → Some x ≡ soonest_of a b
+  soonest_alone q = rw (e, q)
+
+  module _ (y : Candidate) (q : b ≡ Some y) where
+    pub soonest_second : sooner_of y x ≡ true → Some y ≡ soonest_of a b
+    soonest_second f = rw (e, q, f)
+
+    pub soonest_first : sooner_of y x ≡ false → Some x ≡ soonest_of a b
+    soonest_first f = rw (e, q, f)
 
 -- ---- the first of a sorted list with one more: it, unless the first stands before it
 

@@ -1,13 +1,15 @@
 -- The walk down a chain of records, one record at a time. Assumes nothing.
-use Rattle.std.specs.Prelude.{◌≡◌, ◌⊎◌, Bool, cond, List, [], ◌∷◌, ℤ, pos, eqb, length}
+use Rattle.std.specs.Prelude.{◌≡◌, ◌⊎◌, Bool, not, ◌||◌, cond, List, [], ◌∷◌, ℤ, pos, ltb, eqb, length, get_or, drop}
 use Rattle.std.proofs.Math.Path.{refl}
-use Rattle.std.proofs.Common.{sym, ◌∙◌, ap, subst, add-one, ne_eqb}
+use Rattle.std.proofs.Common.{sym, ◌∙◌, ap, subst, add-one, drop_of_length-le, eq-eqb, ne_eqb, ltb-true}
 use Prim.Native.Nat.{ℕ, zero, suc, ◌+◌, ◌-◌, ◌*◌, ◌≤◌, ◌<◌}
 use native.Mathlib.Omega.{arith}
 use Rattle.std.proofs.Math.Bool.{true, false}
 use Rattle.std.proofs.Math.Dec.{eqb-suc-zero}
-use Rattle.lists.specs.Tests.{case}
+use Rattle.lists.specs.Tests.{case, and_both}
+use Rattle.lists.specs.Members.{drop_next}
 use Rattle.model.specs.Basics.{eqℤ, nonzero}
+use Rattle.model.specs.Path.{memℕ}
 use Rattle.model.specs.Reads.{Segment}
 use Rattle.records.specs.Layout.{prev_at, frame_at, starts_at, kept_at, word_at, kept_word_at, kept_starts_at, kept_phone_at, winner_at}
 use Rattle.traceback.specs.declared.Step.{Step}
@@ -48,6 +50,10 @@ module _ (rs : List ℕ) (ls : List ℤ) (route : List ℕ) (n used : ℕ) (w : 
 
 -- ---- a record, as the code reads it
 
+pos_some : (n : ℕ) → (n ≡ 0 → ⊥) → nonzero (pos n) ≡ true
+pos_some zero d = absurd (d refl)
+pos_some (suc n) d = refl
+
 module _ (rs : List ℕ) (ls : List ℤ) (k : ℕ) where
   pub own_step_is : (p f st : ℕ) (z : ℤ) → p ≡ prev_at rs k → f ≡ frame_at rs k → z ≡ word_at ls k → st ≡ starts_at rs k → record { next = p; frame = f; word = z; phone = st; back = 0; at = 0 } ≡ own_step rs ls k
   unfolding own_step
@@ -65,15 +71,28 @@ module _ (rs : List ℕ) (ls : List ℤ) (k : ℕ) where
     unfolding kept_step
     kept_step_off t = rw (tests ∙ t) (λ i. record { next = a i; frame = b i; word = c i; phone = d i; back = 0; at = 0 })
 
--- by whether its kept history is taken
-module _ (rs : List ℕ) (ls : List ℤ) (route : List ℕ) (k n : ℕ) where
-  pub step_kept : takes_kept rs ls route k ≡ true → kept_step rs ls n k ≡ step_of rs ls route n k
-  unfolding step_of
-  step_kept e = rw e
+pub goes_before : (kp w f n : ℕ) → goes_on kp w f n ≡ true → suc f < n
+goes_before kp w f n e = ltb-true (suc f) n (and_both (not (eqb kp w)) (ltb (suc f) n) e).1
 
-  pub step_own : takes_kept rs ls route k ≡ false → own_step rs ls k ≡ step_of rs ls route n k
-  unfolding step_of
-  step_own e = rw e
+-- whether its kept history is taken
+module _ (rs : List ℕ) (ls : List ℤ) (route : List ℕ) (k : ℕ) where
+  pub takes_word : nonzero (word_at ls k) ≡ true → false ≡ takes_kept rs ls route k
+  takes_word e = rw e
+
+  pub takes_starts : nonzero (word_at ls k) ≡ false → (starts_at rs k ≡ 0 → ⊥) → false ≡ takes_kept rs ls route k
+  takes_starts e d = rw (e, pos_some (starts_at rs k) d)
+
+  pub takes_join : {b : Bool} (r : ℕ) → r ≡ suc k → nonzero (word_at ls k) ≡ false → starts_at rs k ≡ 0 → b ≡ memℕ r route → b ≡ takes_kept rs ls route k
+  takes_join r q e d m = m ∙ rw (e, d, q)
+
+  module _ (n : ℕ) where
+    pub step_kept : takes_kept rs ls route k ≡ true → kept_step rs ls n k ≡ step_of rs ls route n k
+    unfolding step_of
+    step_kept e = rw e
+
+    pub step_own : takes_kept rs ls route k ≡ false → own_step rs ls k ≡ step_of rs ls route n k
+    unfolding step_of
+    step_own e = rw e
 
 -- ---- the oldest segment, in the code's registers
 
@@ -177,3 +196,19 @@ module _ {rs : List ℕ} {ls : List ℤ} {route : List ℕ} {n : ℕ} (link : �
   measuring_end {r = r} l e i =
       let c : i.trail ≡ trail_from rs ls route n link no_trail = rw e at i.chain in
       record { words = rw (← c) i.words_are; segments = rw (← c) (count_is n _ i.trail.segments i.head_is); few = (let z = i.few in omega arith, let z = i.many in omega arith) }
+
+-- ---- looking for a record on the route
+
+module _ (route : List ℕ) (r i : ℕ) (so_far : memℕ r route ≡ memℕ r (drop i route)) where
+  pub mem_end : length route ≤ i → false ≡ memℕ r route
+  mem_end l = sym (so_far ∙ ap (memℕ r) (drop_of_length-le route {i = i} l))
+
+  module _ (l : i < length route) where
+    in_turn : memℕ r route ≡ (eqb r (get_or route i 0) || memℕ r (drop (i + 1) route))
+    in_turn = so_far ∙ ap (memℕ r) (drop_next route i 0 l)
+
+    pub mem_here : r ≡ get_or route i 0 → true ≡ memℕ r route
+    mem_here e = sym (in_turn ∙ ap (λ (b : Bool). b || memℕ r (drop (i + 1) route)) (eq-eqb r (get_or route i 0) e))
+
+    pub mem_not : (r ≡ get_or route i 0 → ⊥) → memℕ r route ≡ memℕ r (drop (i + 1) route)
+    mem_not d = in_turn ∙ ap (λ (b : Bool). b || memℕ r (drop (i + 1) route)) (ne_eqb r (get_or route i 0) d)

@@ -6,6 +6,7 @@ ghost use Rattle.std.specs.Prelude.{◌≡◌, ◌+◌, ◌-◌, ◌*◌, ◌≤
 ghost use Rattle.std.specs.Float.Ieee.{eq};
 ghost use Rattle.real32.specs.Least.{fmin};
 ghost use Rattle.model.specs.Basics.{◌≺◌};
+ghost use Rattle.model.specs.Path.{memℕ};
 ghost use Rattle.traceback.specs.Table.{Counted, FinalsCount, LeastsAre, RelativeIs};
 ghost use Rattle.traceback.specs.Ranks.{weight_in, rank_in, candidate_at, BestIs, soonest_of};
 ghost use Rattle.traceback.specs.Trail.{no_trail};
@@ -226,6 +227,17 @@ pub struct Step {
 }
 
 // Whether a record is one of the joins whose kept history is taken.
+fn on_route(route: &[u32], r: u32) -> bool
+    ensures { result ≡ memℕ r route.now }
+{
+    for &join in route {
+        if join == r {
+            return true;
+        }
+    }
+    false
+}
+
 fn takes_kept(records: &[u32], labels: &[i32], route: &[u32], r: u32) -> bool
     requires { (0 < r) × (r * 8 ≤ length records.now) × (r * 2 ≤ length labels.now) }
     ensures { result ≡ takes_kept records.now labels.now route.now (r - 1) }
@@ -236,7 +248,7 @@ fn takes_kept(records: &[u32], labels: &[i32], route: &[u32], r: u32) -> bool
     if records::starts_of(records, r) != 0 {
         return false;
     }
-    route.contains(&r)
+    on_route(route, r)
 }
 
 // A record on the way itself; a join has neither word nor phone.
