@@ -1,5 +1,5 @@
 -- What the heads among ranked states are asked for, and what the stores answer. Assumes nothing.
-use Rattle.std.specs.Prelude.{◌≡◌, ℕ, ◌+◌, ◌*◌, ◌≤◌, ◌<◌, Bool, true, List, ℤ, length, get_or, take, Float, Option, Some, None, Result, Err, ok_or}
+use Rattle.std.specs.Prelude.{◌≡◌, ℕ, ◌+◌, ◌*◌, ◌≤◌, ◌<◌, Bool, true, List, ℤ, length, get_or, take, Float, Option, Some, None, Result, Ok, Err, ok_or}
 use Rattle.std.proofs.Common.{sym, ap, ◌∙◌, subst, arith, ne_eqb}
 use Rattle.lists.specs.Lists.{◌∈◌}
 use Rattle.lists.specs.Members.{keep_from, map_from}
@@ -231,7 +231,15 @@ module _ {tk : List ℕ} {sm fs : List Float} {rs : List ℕ} {ls : List ℤ} {g
           fill = F;
         }
 
+    -- the kept readings did not fit
+    pub many_found : FillIs tk sm fs rs ls b used counts bound heads' m lists hs ns xs khs₀ kns₀ kxs₀ most khs kns kxs None → FoundIs tk sm fs rs ls gs b used margin counts listed bound heads all hs ns xs entries khs kns kxs most (Err ListsFull)
+    many_found F = map_full (found F)
+
+    -- all fitted
+    pub all_found : {r : ℕ} → FillIs tk sm fs rs ls b used counts bound heads' m lists hs ns xs khs₀ kns₀ kxs₀ most khs kns kxs (Some r) → FoundIs tk sm fs rs ls gs b used margin counts listed bound heads all hs ns xs entries khs kns kxs most (Ok r)
+    all_found {r} F = are_found r (found F)
+
     -- the kept readings, if they fitted
     pub kept_found : (r : Option ℕ) → FillIs tk sm fs rs ls b used counts bound heads' m lists hs ns xs khs₀ kns₀ kxs₀ most khs kns kxs r → FoundIs tk sm fs rs ls gs b used margin counts listed bound heads all hs ns xs entries khs kns kxs most (ok_or r ListsFull)
-    kept_found None F = map_full (found F)
-    kept_found (Some r) F = are_found r (found F)
+    kept_found None F = many_found F
+    kept_found (Some r) F = all_found F

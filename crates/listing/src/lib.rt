@@ -6,11 +6,21 @@ ghost use Rattle.summaries.specs.Summed.{Keys, Summed};
 ghost use Rattle.merged.specs.Items.{kept_first};
 ghost use Rattle.listing_laws.specs.Whole.{same_test};
 ghost use Rattle.places.specs.Places.{entry_places, kept_places};
-ghost use Rattle.listing.specs.Listed.{scratch, slices, ListingAsks, OwnListAsks, bound_of, BoundAsks, OwnListed, HeadsListed, FindAsks, FoundIs, WithAsks, WithIs, ListingIs};
+ghost use Rattle.listing.specs.Listed.{scratch, slices, ListingAsks, OwnListAsks, Copied, bound_of, BoundAsks, OwnListed, HeadsListed, FindAsks, FoundIs, WithAsks, WithIs, ListingIs};
 ghost use Rattle.listing.specs.Finding.{HeadsListAsks};
 ghost use Rattle.listing.specs.Settling.{SettleAsks, Settled};
 
 use refusals::Reason;
+
+// One by one: the library for C then needs no `memmove` from outside.
+fn copy(from: &[u32], to: &mut [u32], n: usize)
+    requires { (n ≤ length from.now) × (n ≤ length to.old) }
+    ensures { Copied from.now to.new n }
+{
+    for i in 0..n {
+        to[i] = from[i];
+    }
+}
 
 // What a kept reading has to rank below: the rank of the listed-th of the m own groups.
 fn bound_of(
@@ -61,7 +71,7 @@ fn list_own(
     ensures { OwnListed tokens.now sums.now finals.now records.now labels.now side states used counts heads.new own.new result }
 {
     let all = ranking::ranked(tokens, sums, finals, states, side, counts, keys, heads);
-    own[..all].copy_from_slice(&heads[..all]);
+    copy(heads, own, all);
     let m = groups::firsts(
         tokens,
         records,
@@ -209,7 +219,10 @@ fn find_kept(
         kept_sums,
         most,
     );
-    kept.ok_or(Reason::ListsFull)
+    match kept {
+        Some(r) => Ok(r),
+        None => Err(Reason::ListsFull),
+    }
 }
 
 // How many own groups and kept readings there are.
@@ -436,7 +449,7 @@ pub fn list_readings(
         heads,
     );
     if !is_listing(keeps, listed) {
-        list[..r.own].copy_from_slice(&own[..r.own]);
+        copy(own, list, r.own);
         return Ok(r.own);
     }
     let bound = bound_of(tokens, sums, finals, side, counts, own, r.own, listed);

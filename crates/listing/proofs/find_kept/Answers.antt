@@ -4,7 +4,7 @@ use mathlib.Core.Path.{refl}
 use lib.ListN.{length}
 use Rattle.places.specs.Places.{entry_few}
 use Rattle.listing.specs.Rooms.{entry_room}
-use Rattle.listing.specs.Finding.{heads_list_asks, below_heads_ask, below_asked, fill_asks, below_as, none_found, kept_found}
+use Rattle.listing.specs.Finding.{heads_list_asks, below_heads_ask, below_asked, fill_asks, below_as, none_found, many_found, all_found}
 use Rattle.std.proofs.lemmas.Result.{err_from_is_err_and}
 use Rattle.listing.proofs.find_kept.Goals as goal
 
@@ -29,5 +29,8 @@ returns-in_err-ok_or c = let p = err_from_is_err_and c.from_residual.result c.fr
 pub fill_kept-kept-requires : goal.fill_kept-kept-requires
 fill_kept-kept-requires c = fill_asks c.requires.0.stores c.requires.0.ranked c.list_heads-m.ensures (let y = c.requires.0.heads_long in let z = c.list_heads-m.auto.heads in omega arith) (let y = c.requires.0.lists_long in let z = c.fill_below.auto.lists in omega arith) (entry_room (length c.args.hashes.now) (length c.args.nexts.now) (length c.args.costs.now) c.entry_places-room.ensures c.fill_below.auto.hashes c.fill_below.auto.nexts c.fill_below.auto.sums) (entry_few (length c.args.hashes.now) (length c.args.nexts.now) (length c.args.costs.now) c.entry_places-room.ensures) (below_as c.fill_below.ensures c.in_ok-ok_or.ensures.ok_part) c.requires.0.room
 
-pub returns : goal.returns
-returns c = rw c.ok_or-2.ensures.value (kept_found c.list_heads-m.ensures c.entry_places-room.ensures (below_as c.fill_below.ensures c.in_ok-ok_or.ensures.ok_part) _ c.fill_kept-kept.ensures)
+pub returns-in-Some : goal.returns-in-Some
+returns-in-Some c = all_found c.list_heads-m.ensures c.entry_places-room.ensures (below_as c.fill_below.ensures c.in_ok-ok_or.ensures.ok_part) (rw c.in-Some.is at c.fill_kept-kept.ensures)
+
+pub returns-in-None : goal.returns-in-None
+returns-in-None c = many_found c.list_heads-m.ensures c.entry_places-room.ensures (below_as c.fill_below.ensures c.in_ok-ok_or.ensures.ok_part) (rw c.in-None.is at c.fill_kept-kept.ensures)

@@ -4,7 +4,6 @@ use native.Mathlib.Omega.{arith}
 use lib.ListN.{length}
 use Rattle.places.specs.Places.{kept_few}
 use Rattle.listing.specs.Rooms.{entry_room, kept_room}
-use Rattle.listing.specs.Copies.{copied_front, copied_long}
 use Rattle.listing.specs.Alone.{own_alone}
 use Rattle.listing.specs.Answer.{bound_asks, stores_kept, with_asks, is_full_lem, are_items_lem}
 use Rattle.std.proofs.lemmas.Result.{err_from_is_err_and}
@@ -16,8 +15,11 @@ list_own-r-requires c = let p = c.requires in (record { gs = _; keeps = _; margi
 pub is_listing-requires : goal.is_listing-requires
 is_listing-requires c = tt
 
+pub copy-requires : goal.copy-requires
+copy-requires c = let o = c.list_own-r in (o.ensures.room, let x = o.ensures.firsts.few in let y = o.ensures.ranked.few in let z = c.requires.0.wide.list in omega arith)
+
 pub returns-then-not-is_listing : goal.returns-then-not-is_listing
-returns-then-not-is_listing c = let p = c.requires in let w = c.copy_from_slice.ensures in own_alone p.0.stores.few c.list_own-r.ensures (copied_front _ c.list_own-r.ensures.room w.after) (let z = p.0.wide.list in let q = copied_long c.args.list.now _ _ w.len in omega arith) _ _ _ _ (sym c.is_listing.ensures ∙ c.if-not-is_listing.true) _ _ _ _ _ _ _ _
+returns-then-not-is_listing c = let p = c.requires in own_alone p.0.stores.few c.list_own-r.ensures c.copy.ensures (let z = p.0.wide.list in let q = c.copy.auto.to in omega arith) _ _ _ _ (sym c.is_listing.ensures ∙ c.if-not-is_listing.true) _ _ _ _ _ _ _ _
 
 pub bound_of-bound-requires : goal.bound_of-bound-requires
 bound_of-bound-requires c = bound_asks c.requires.0.stores c.args.listed (sym c.is_listing.ensures ∙ c.if-not-is_listing.false) c.list_own-r.ensures
