@@ -177,12 +177,13 @@ fn put_number(label: &[u8], number: u32, out: &mut [u8], at: usize) -> usize
     put(b";", out, end)
 }
 
-// Copies a part to a place of `out`, and gives the place behind it.
+// Copies a part to a place of `out`, and gives the place behind it. Byte by byte: the library for C then needs no `memmove` from outside.
 fn put(part: &[u8], out: &mut [u8], at: usize) -> usize
     requires { at + length part.now ≤ length out.old }
     ensures { Stored out.old at part.now result out.new }
 {
-    let end = at + part.len();
-    out[at..end].copy_from_slice(part);
-    end
+    for i in 0..part.len() {
+        out[at + i] = part[i];
+    }
+    at + part.len()
 }
