@@ -38,12 +38,35 @@ fn search(word: i32, ends: &[u32], words: &[i32]) -> Option<usize>
     ensures { found_of (Ok result) ≡ first_reading word (listing ends.now words.now) }
 {
     let mut from = 0;
-    for (reading, &end) in ends.iter().enumerate() {
-        let end = end as usize;
-        if words[from..end].contains(&word) {
+    for reading in 0..ends.len() {
+        let end = ends[reading] as usize;
+        if has_word(word, &words[from..end]) {
             return Some(reading);
         }
         from = end;
     }
     None
+}
+
+// A plain loop for a reading of a few words, as most have: the library's test takes sixteen at a time, and costs more before it begins.
+fn has_word(word: i32, reading: &[i32]) -> bool
+    ensures { result ≡ contains word reading.now }
+{
+    if 16 <= reading.len() {
+        return long_has_word(word, reading);
+    }
+    for i in 0..reading.len() {
+        if reading[i] == word {
+            return true;
+        }
+    }
+    false
+}
+
+// Not put into its caller, whose loop it would slow.
+#[inline(never)]
+fn long_has_word(word: i32, reading: &[i32]) -> bool
+    ensures { result ≡ contains word reading.now }
+{
+    reading.contains(&word)
 }

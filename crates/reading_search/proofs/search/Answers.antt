@@ -3,26 +3,25 @@ use Rattle.std.proofs.Common.{sym, ◌∙◌, arith}
 use mir.Syntax.{w32}
 use mir.ValLaws.{to_z-of_z}
 use Rattle.model.specs.Search.{first_reading}
-use Rattle.reading_search.proofs.Words.{any_is_contains}
 use Rattle.reading_search.proofs.Searching.{found_here, searching_more, found_nowhere}
 use Rattle.reading_search.proofs.search.Goals as goal
 
-pub returns-then-contains : goal.returns-then-contains
+pub returns-then-has_word : goal.returns-then-has_word
 unfolding first_reading
-returns-then-contains c =
+returns-then-has_word c =
     let a = c.args in
     let l = c.loop-reading in
     let own = to_z-of_z w32 a.word c.ranges.word in
-    let has = sym (any_is_contains a.word _) ∙ sym (rw own at c.contains.ensures.value) ∙ c.if-contains.true in
-    rw (c.requires, found_here a.word a.ends.now a.words.now l.from l.reading (rw own at l.invariant) c.loop-reading-test.true has)
+    let has = sym (rw own at c.has_word.ensures) ∙ c.if-has_word.true in
+    rw (c.requires, found_here a.word a.ends.now a.words.now l.from l.reading (rw own at l.invariant) (omega arith) has)
 
 pub loop-reading-preserved : goal.loop-reading-preserved
 loop-reading-preserved c =
     let a = c.args in
     let l = c.loop-reading in
     let own = to_z-of_z w32 a.word c.ranges.word in
-    let lacks = sym (any_is_contains a.word _) ∙ sym (rw own at c.contains.ensures.value) ∙ c.if-contains.false in
-    rw own (searching_more a.word a.ends.now a.words.now l.from l.reading (rw own at l.invariant) c.loop-reading-test.true lacks)
+    let lacks = sym (rw own at c.has_word.ensures) ∙ c.if-has_word.false in
+    rw own (searching_more a.word a.ends.now a.words.now l.from l.reading (rw own at l.invariant) (omega arith) lacks)
 
 pub returns : goal.returns
 unfolding first_reading
