@@ -20,6 +20,7 @@ pub fn infinity() -> f32
     f32::INFINITY
 }
 
+#[tactic(auto, using(crate::proofs::Finite::std_finite, crate::proofs::Finite::above_minus, crate::proofs::Finite::not_below_plus))]
 pub fn is_finite(x: f32) -> bool
     ensures { result ≡ finite x }
 {
