@@ -40,7 +40,7 @@ fn search(word: i32, ends: &[u32], words: &[i32]) -> Option<usize>
     let mut from = 0;
     for reading in 0..ends.len() {
         let end = ends[reading] as usize;
-        if has_word(word, &words[from..end]) {
+        if has_word(&word, &words[from..end]) {
             return Some(reading);
         }
         from = end;
@@ -48,25 +48,24 @@ fn search(word: i32, ends: &[u32], words: &[i32]) -> Option<usize>
     None
 }
 
-// A plain loop for a reading of a few words, as most have: the library's test takes sixteen at a time, and costs more before it begins.
-fn has_word(word: i32, reading: &[i32]) -> bool
-    ensures { result ≡ contains word reading.now }
+// The library's test takes several words at a time, and costs more before it begins: a few words, as most readings have, are compared one by one.
+fn has_word(word: &i32, reading: &[i32]) -> bool
+    ensures { result ≡ contains word.now reading.now }
 {
-    if 16 <= reading.len() {
-        return long_has_word(word, reading);
+    match reading.len() {
+        0 => false,
+        1..=5 => few_have_word(word, reading),
+        _ => reading.contains(word),
     }
-    for i in 0..reading.len() {
-        if reading[i] == word {
+}
+
+fn few_have_word(word: &i32, few: &[i32]) -> bool
+    ensures { result ≡ contains word.now few.now }
+{
+    for i in 0..few.len() {
+        if few[i] == *word {
             return true;
         }
     }
     false
-}
-
-// Not put into its caller, whose loop it would slow.
-#[inline(never)]
-fn long_has_word(word: i32, reading: &[i32]) -> bool
-    ensures { result ≡ contains word reading.now }
-{
-    reading.contains(&word)
 }
