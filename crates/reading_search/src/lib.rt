@@ -48,7 +48,7 @@ fn search(word: i32, ends: &[u32], words: &[i32]) -> Option<usize>
     None
 }
 
-// The library's test takes several words at a time, and costs more before it begins: a few words, as most readings have, are compared one by one.
+// The library's test takes several words at a time, and costs more before it begins: up to five words are compared one by one.
 fn has_word(word: &i32, reading: &[i32]) -> bool
     ensures { result ≡ contains word.now reading.now }
 {
